@@ -1,0 +1,5 @@
+pub mod Steps
+pub mod Drawing
+pub mod Kraft
+pub mod Scripts
+pub mod Writing
