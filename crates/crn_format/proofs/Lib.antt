@@ -3,3 +3,4 @@ pub mod Drawing
 pub mod Kraft
 pub mod Scripts
 pub mod Writing
+pub mod Examples
