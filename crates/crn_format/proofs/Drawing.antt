@@ -63,15 +63,15 @@ used-pos t zero h = omega arith
 used-pos t (suc l) h = refl
 
 -- ---- the symbol of a length and a rank
-record Nth (t : List ℕ) (n l r y : ℕ) : Type 0 where
-  under : y < n
-  length-is : getD t y 0 ≡ l
-  rank-is : below t y l ≡ r
+pub record Nth (t : List ℕ) (n l r y : ℕ) : Type 0 where
+  pub under : y < n
+  pub length-is : getD t y 0 ≡ l
+  pub rank-is : below t y l ≡ r
 
 weaken : (t : List ℕ) (n l r y : ℕ) → Nth t n l r y → Nth t (suc n) l r y
 weaken t n l r y h = record { under = omega arith; length-is = h .length-is; rank-is = h .rank-is }
 
-nth-is : (t : List ℕ) (n l r : ℕ) → r < below t n l → Nth t n l r (nth t n l r)
+pub nth-is : (t : List ℕ) (n l r : ℕ) → r < below t n l → Nth t n l r (nth t n l r)
 unfolding nth below
 nth-is t zero l r h = omega arith
 nth-is t (suc n) l r h = go (nth-is t n l r) (ℕ-discrete (getD t n 0) l) (ℕ-discrete (below t n l) r)
@@ -159,7 +159,7 @@ found t s p y (suc n) k b h u = go (found t s p y n (k + 1) b) (ℕ-discrete (ge
 
 -- ---- what is found begins the bits
 -- the bits are never below the first code of their length
-low-next : (t s : List ℕ) (p l : ℕ) → firstCode t l + used t l ≤ spelled s p l → firstCode t (l + 1) ≤ spelled s p (l + 1)
+pub low-next : (t s : List ℕ) (p l : ℕ) → firstCode t l + used t l ≤ spelled s p l → firstCode t (l + 1) ≤ spelled s p (l + 1)
 unfolding firstCode spelled
 low-next t s p l h = rw (add-one l) (omega arith)
 
@@ -196,7 +196,7 @@ sound t s p (suc n) k y q low e = go (sound t s p n (k + 1) y q) (decLe (p + (k 
         (w .0, omega (arith, w .1, z))
     go ih (yes a) (no b) = ih (low-next t s p (k + 1) (omega arith)) (sym (seek-more t s p n k a (omega arith)) ∙ e)
 
-last-above : (t : List ℕ) (n l : ℕ) → l ≤ n → 0 < used t l → l ≤ longestUpTo t n
+pub last-above : (t : List ℕ) (n l : ℕ) → l ≤ n → 0 < used t l → l ≤ longestUpTo t n
 unfolding longestUpTo
 last-above t zero l h u = omega arith
 last-above t (suc n) l h u = go (last-above t n l) (ℕ-discrete (used t (suc n)) 0)
@@ -215,11 +215,11 @@ draws s t p y b h =
     found t s p y (longest t) 0 b (b .coded)
     (omega (arith, last-above t 16 (getD t y 0) h (omega (arith, used-pos t (getD t y 0) (b .coded), below-lt t y (length t) (b .known)))))
 
-first-one : (t s : List ℕ) (p : ℕ) → firstCode t 1 ≤ spelled s p 1
+pub first-one : (t s : List ℕ) (p : ℕ) → firstCode t 1 ≤ spelled s p 1
 unfolding firstCode used
 first-one t s p = zero-le
 
-last-le : (t : List ℕ) (n : ℕ) → longestUpTo t n ≤ n
+pub last-le : (t : List ℕ) (n : ℕ) → longestUpTo t n ≤ n
 unfolding longestUpTo
 last-le t zero = omega arith
 last-le t (suc n) = go (last-le t n) (ℕ-discrete (used t (suc n)) 0)

@@ -125,7 +125,7 @@ followed-budgeted seg m ss v l a e h n =
 -- ---- what a run over the bits took stands there
 
 module _ (seg : List ℕ) where
-  at-got : (x : Want) (w w₁ : Place) (s : ℕ) → served seg x w ≡ got s w₁ → Stands seg x (w .at) s × (w₁ .at ≡ w .at + width x s)
+  pub at-got : (x : Want) (w w₁ : Place) (s : ℕ) → served seg x w ≡ got s w₁ → Stands seg x (w .at) s × (w₁ .at ≡ w .at + width x s)
   unfolding served Stands width ofDrawn
   at-got (aSymbol ls) w w₁ s e = go (drawn ls seg (w .at)) refl e
     where

@@ -1,10 +1,10 @@
 -- The blocks of a level (document 01, Header and Chunks): in which order their chunks come, where their bytes go, and what bytes they are.
 use Prim.Native.Nat.{ℕ, zero, suc, _+_, _*_, _-_, _/_, _%_, _^_}
-use mathlib.Core.Bool.{Bool, true, false}
+use mathlib.Core.Bool.{Bool, true}
 use mathlib.Core.List.{List, [], _∷_, _++_}
-use lib.ListN.{length, getD, replicate}
+use lib.ListN.{getD, replicate}
 use lib.Seq.{sets}
-use lib.Dec.{leb, ltb, eqb}
+use lib.Dec.{ltb, eqb}
 use Rattle.crn_format.specs.Choice.{pick, both}
 use Rattle.crn_format.specs.Level.{Chunk, tileMap, tileAt}
 

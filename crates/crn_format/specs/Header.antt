@@ -1,8 +1,8 @@
 -- The header (document 01, Header): big-endian fields at fixed places, formats, limits and sizes.
-use Prim.Native.Nat.{ℕ, zero, suc, _+_, _*_, _-_}
+use Prim.Native.Nat.{ℕ, zero, suc, _+_, _*_}
 use mathlib.Core.Bool.{Bool, true, false}
 use mathlib.Core.List.{List, [], _∷_}
-use lib.ListN.{length, getD, take}
+use lib.ListN.{length, getD}
 use lib.Dec.{leb, ltb, eqb}
 use Rattle.crn_format.specs.Choice.{pick, both, either}
 use Rattle.crn_format.specs.Limits.{maxSide, maxLevels, maxEntries, tooLong}
@@ -13,7 +13,7 @@ use Rattle.crn_format.specs.declared.Header.{Header}
 unfoldable pub signed : List ℕ → Bool
 signed file = both (leb 74 (length file)) (both (eqb (getD file 0 0) 0x48) (eqb (getD file 1 0) 0x78))
 
--- the number that n bytes from `at` on spell, the first the highest
+-- the number that n bytes from `at` on spell, the first the highest; a byte past the file's end counts as 0 (such a file gets 3)
 unfoldable pub field : List ℕ → ℕ → ℕ → ℕ
 field file at zero = 0
 field file at (suc n) = 256 * field file at n + getD file (at + n) 0

@@ -4,7 +4,7 @@ use mathlib.Core.Bool.{Bool, true, false}
 use mathlib.Core.List.{List, [], _∷_, _++_}
 use lib.ListN.{length, getD, replicate}
 use lib.Dec.{ltb}
-use Rattle.crn_format.specs.Choice.{pick, either}
+use Rattle.crn_format.specs.Choice.{pick, not, either}
 use Rattle.crn_format.specs.Limits.{chunkSymbols}
 use Rattle.crn_format.specs.Reading.{Reading, answer, refuse, symbol, next}
 
@@ -37,7 +37,7 @@ unfoldable pub selectorIndex : Plane → Bool → ℕ → Reading ℕ
 unfolding next
 selectorIndex p inside i =
     next (symbol (p .selectorDeltas)) λ d.
-    pick (either (ltb (stepped (p .selectors) i d) (p .selectors)) (pick inside false true)) (answer (stepped (p .selectors) i d))
+    pick (either (ltb (stepped (p .selectors) i d) (p .selectors)) (not inside)) (answer (stepped (p .selectors) i d))
     (refuse 14)
 
 -- ---- "Draws per chunk: endpoint deltas for all tiles, plane by plane"
@@ -88,13 +88,13 @@ tileMap =
 abbrev pub tileAt : ℕ → ℕ → ℕ
 tileAt encoding position = getD tileMap (4 * encoding + position) 0
 
--- the next encoding, and those pending after it. "When no encoding is pending, a chunk symbol is drawn; its low nine bits give three
+-- the next encoding, and those pending after it; `table` is the chunk symbols' code. "When no encoding is pending, a chunk symbol is drawn; its low nine bits give three
 -- encodings, lowest three bits first" (refusal 13)
 unfoldable pub encoding : List ℕ → List ℕ → Reading (ℕ × List ℕ)
 unfolding next
-encoding chunks (e ∷ pending) = answer (e, pending)
-encoding chunks [] =
-    next (symbol chunks) λ s. pick (ltb s chunkSymbols) (answer (s % 8, s / 8 % 8 ∷ s / 64 % 8 ∷ [])) (refuse 13)
+encoding table (e ∷ pending) = answer (e, pending)
+encoding table [] =
+    next (symbol table) λ s. pick (ltb s chunkSymbols) (answer (s % 8, s / 8 % 8 ∷ s / 64 % 8 ∷ [])) (refuse 13)
 
 -- ---- chunks
 
@@ -129,8 +129,8 @@ lastRow is (js ∷ rest) = lastRow js rest
 -- a chunk, given which of its positions lie inside the grid
 unfoldable pub chunk : List ℕ → List Plane → List Bool → Running → Reading (Chunk × Running)
 unfolding next tileCounts lasts lastRow
-chunk chunks ps inside r =
-    next (encoding chunks (r .pending)) λ e.
+chunk table ps inside r =
+    next (encoding table (r .pending)) λ e.
     next (planeEndpoints ps (getD tileCounts (e .0) 0) (r .endpoint)) λ t.
     next (positionSelectors ps inside (r .selector) []) λ q.
     answer (

@@ -1,5 +1,5 @@
 -- The limits of document 01, each in this place alone.
-use Prim.Native.Nat.{ℕ, _*_, _^_}
+use Prim.Native.Nat.{ℕ, _^_}
 
 -- pixels of a side (Header)
 abbrev pub maxSide : ℕ

@@ -1,9 +1,9 @@
 -- Unpacking a level (document 01, Refusal numbers): what is checked before the first draw, what is drawn, and what the destination then
 -- holds.
-use Prim.Native.Nat.{ℕ, zero, suc, _+_, _*_, _-_, _/_, _%_, _^_}
-use mathlib.Core.Bool.{Bool, true, false}
+use Prim.Native.Nat.{ℕ, _+_, _*_, _-_, _%_}
+use mathlib.Core.Bool.{Bool, true}
 use mathlib.Core.List.{List, [], _∷_}
-use lib.ListN.{length, getD, take, drop}
+use lib.ListN.{length, getD, take}
 use lib.Dec.{leb, ltb, eqb}
 use Rattle.crn_format.specs.Choice.{pick, both, either}
 use Rattle.crn_format.specs.Limits.{maxSymbols, tooLong}
@@ -15,7 +15,6 @@ use Rattle.crn_format.specs.Level.{Plane, Chunk, level}
 use Rattle.crn_format.specs.Grid.{Grid, Shade, color, alpha, pixels, blocks, chunkCount, insides, blockAt, painted, blank, cutouts}
 use Rattle.crn_format.specs.declared.Table.{Table}
 use Rattle.crn_format.specs.declared.Tables.{Tables}
-use Rattle.crn_format.specs.declared.Part.{Part}
 use Rattle.crn_format.specs.declared.Header.{Header}
 use Rattle.crn_format.specs.declared.Record.{Record}
 
