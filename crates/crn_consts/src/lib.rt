@@ -1,0 +1,83 @@
+// The constant tables of a CRN file (document 01, Codes, Palettes and Chunks), each read by a function that gives 0 past its end.
+ghost use mathlib.Core.Path.{_≡_};
+ghost use Prim.Native.Nat.{_<_, _≤_};
+ghost use lib.ListN.{getD};
+ghost use Rattle.crn_format.specs.Level.{tileCounts, tileAt};
+ghost use Rattle.crn_format.specs.Palettes.{colorFromLinear, alphaFromLinear};
+ghost use Rattle.crn_format.specs.Tables.{lengthOrder};
+ghost use Rattle.crn_consts.specs.Entries.{Entry, Pair};
+ghost use Rattle.crn_consts.specs.AlphaDeltas.{AlphaDeltas};
+
+mod tables;
+
+// What an alpha selector symbol adds to two running values, each raised by 8 so that it is not negative.
+pub struct Deltas {
+    pub first: u32,
+    pub second: u32,
+}
+
+// A table's entry, 0 past its end.
+fn entry(table: &[u8], at: usize) -> u32
+    ensures { λ r. ⌜ Entry (now (table .entry)) at r ⌝ }
+{
+    if at < table.len() {
+        table[at] as u32
+    } else {
+        0
+    }
+}
+
+// How many tiles a chunk of this encoding has.
+pub fn tile_count(encoding: u32) -> u32
+    ensures { λ r. ⌜ (r ≡ getD tileCounts encoding 0) × (r ≤ 4) ⌝ }
+{
+    entry(&tables::CHUNK_ENCODING_NUM_TILES, encoding as usize)
+}
+
+// The tile at a position of a chunk: 0 left-top, 1 right-top, 2 left-bottom, 3 right-bottom.
+pub fn tile(encoding: u32, position: u32) -> u32
+    ensures { λ r. ⌜ (r ≡ tileAt encoding position) × (r < 4) ⌝ }
+{
+    entry(
+        &tables::CHUNK_ENCODING_TILES,
+        4 * encoding as usize + position as usize,
+    )
+}
+
+// How a block writes a colour selector's value.
+pub fn color_from_linear(value: u32) -> u32
+    ensures { λ r. ⌜ (r ≡ getD colorFromLinear value 0) × (r < 4) ⌝ }
+{
+    entry(&tables::DXT1_FROM_LINEAR, value as usize)
+}
+
+// How a block writes an alpha selector's value.
+pub fn alpha_from_linear(value: u32) -> u32
+    ensures { λ r. ⌜ (r ≡ getD alphaFromLinear value 0) × (r < 8) ⌝ }
+{
+    entry(&tables::DXT5_FROM_LINEAR, value as usize)
+}
+
+// The i-th of the 21 length symbols, in the order in which their own lengths are sent.
+pub fn length_symbol(i: usize) -> usize
+    ensures { λ r. ⌜ (r ≡ getD lengthOrder i 0) × (r < 21) ⌝ }
+{
+    entry(&tables::MOST_PROBABLE_CODELENGTH_CODES, i) as usize
+}
+
+// The pair at a place of a table of pairs, 0 and 0 past its end.
+fn pair(table: &[u8], at: u32) -> Deltas
+    ensures { λ r. ⌜ Pair (now (table .entry)) at r ⌝ }
+{
+    let start = 2 * at as usize;
+    let first = entry(table, start);
+    let second = entry(table, start + 1);
+    Deltas { first, second }
+}
+
+// The deltas of an alpha selector symbol, 0 and 0 from 225 on.
+pub fn alpha_deltas(symbol: u32) -> Deltas
+    ensures { λ r. ⌜ AlphaDeltas symbol r ⌝ }
+{
+    pair(&tables::ALPHA_DELTA_PAIRS, symbol)
+}

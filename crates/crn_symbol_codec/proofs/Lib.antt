@@ -1,0 +1,8 @@
+pub mod Bytes
+pub mod Cut
+pub mod Holding
+pub mod Walking
+pub mod Finding
+pub mod Drawing
+pub mod Taking
+pub mod Serving

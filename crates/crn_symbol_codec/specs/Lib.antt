@@ -1,0 +1,4 @@
+pub mod Cursors
+pub mod Taking
+pub mod Decoders
+pub mod Drawing

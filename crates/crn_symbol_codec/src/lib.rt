@@ -1,0 +1,237 @@
+// Bits and symbols of a segment: a cursor by value beside the segment's slice.
+ghost use mathlib.Core.Path.{_≡_};
+ghost use mathlib.Core.List.{List};
+ghost use Prim.Native.Nat.{ℕ, _+_, _*_, _<_, _≤_};
+ghost use lib.ListN.{length, getD};
+ghost use Rattle.crn_format.specs.Limits.{tooLong};
+ghost use Rattle.crn_format.specs.Bits.{spelled};
+ghost use Rattle.crn_format.specs.Reading.{aSymbol, aNumber};
+ghost use Rattle.crn_symbol_codec.specs.Cursors.{place as «placeOf», past, Holds, Enough, Filled};
+ghost use Rattle.crn_symbol_codec.specs.Taking.{Takes, Near};
+ghost use Rattle.crn_symbol_codec.specs.Decoders.{Usable, Decodes};
+ghost use Rattle.crn_symbol_codec.specs.Drawing.{Missed, Draws};
+
+// The next `have` bits, at the top of `bits`, and the byte after them. Below them stand bits of the segment or 0.
+pub struct Cursor {
+    pub bits: u64,
+    pub have: u64,
+    pub next: usize,
+}
+
+// A symbol or a number, with the cursor after it; or the refusal, 7 or 8.
+pub enum Taken {
+    Value(u32, Cursor),
+    Failed(u32),
+}
+
+// At the segment's first bit.
+pub fn start(seg: &[u8]) -> Cursor
+    ensures { λ r. ⌜ Holds (now (seg .entry)) r × («placeOf» r ≡ 0) ⌝ }
+{
+    Cursor {
+        bits: 0,
+        have: 0,
+        next: 0,
+    }
+}
+
+// The place of the next bit.
+pub fn place(seg: &[u8], c: Cursor) -> usize
+    requires { ⌜ Holds (now seg) c ⌝ ∗ ⌜ length (now seg) < tooLong ⌝ }
+    ensures { λ r. ⌜ r ≡ «placeOf» c ⌝ }
+{
+    8 * c.next - c.have as usize
+}
+
+// A byte of the segment, as a number to count with.
+fn from_u8(x: u8) -> u64
+    ensures { λ r. ⌜ (r ≡ x) × (r < 256) ⌝ }
+{
+    x as u64
+}
+
+// Four bytes as one number.
+fn four_bytes(seg: &[u8], i: usize) -> u64
+    requires { ⌜ i + 4 ≤ length (now seg) ⌝ }
+    ensures { λ r. ⌜ (r ≡ spelled (now (seg .entry)) (8 * i) 32) × (r < 4294967296) ⌝ }
+{
+    from_u8(seg[i]) * 16777216
+        + from_u8(seg[i + 1]) * 65536
+        + from_u8(seg[i + 2]) * 256
+        + from_u8(seg[i + 3])
+}
+
+// Eight bytes as one number. (The compiler makes one load of it.)
+fn eight_bytes(seg: &[u8], i: usize) -> u64
+    requires { ⌜ i + 8 ≤ length (now seg) ⌝ }
+    ensures { λ r. ⌜ r ≡ spelled (now (seg .entry)) (8 * i) 64 ⌝ }
+{
+    four_bytes(seg, i) * 4294967296 + four_bytes(seg, i + 4)
+}
+
+// The last bytes, of which there are fewer than eight, with 0 after them. (A loop, and no eight guarded bytes: the compiler leaves
+// a long `refill` out of line.)
+fn last_bytes(seg: &[u8], i: usize) -> u64
+    requires { ⌜ (i ≤ length (now seg)) × (length (now seg) < i + 8) ⌝ }
+    ensures { λ r. ⌜ r ≡ spelled (now (seg .entry)) (8 * i) 64 ⌝ }
+{
+    let mut w: u64 = 0;
+    let mut k: usize = i;
+    while k < seg.len() {
+        w = w * 256 + from_u8(seg[k]);
+        k += 1;
+    }
+    if k == i {
+        return 0;
+    }
+    w << (8 * (8 - (k - i)))
+}
+
+// A refill where fewer than eight bytes are left.
+fn refill_last(seg: &[u8], c: Cursor) -> Cursor
+    requires { ⌜ Holds (now seg) c ⌝ ∗ ⌜ length (now seg) < c .next + 8 ⌝ }
+    ensures { λ r. ⌜ Filled (now (seg .entry)) c r ⌝ }
+{
+    let n = c.next;
+    let h = c.have;
+    let bits = c.bits | (last_bytes(seg, n) >> h);
+    let room = 7 - h / 8;
+    let left = seg.len() - n;
+    if left < room as usize {
+        return Cursor {
+            bits,
+            have: h + 8 * left as u64,
+            next: n + left,
+        };
+    }
+    Cursor {
+        bits,
+        have: h + 8 * room,
+        next: n + room as usize,
+    }
+}
+
+// 56 bits, or all that are left.
+pub fn refill(seg: &[u8], c: Cursor) -> Cursor
+    requires { ⌜ Holds (now seg) c ⌝ }
+    ensures { λ r. ⌜ Filled (now (seg .entry)) c r ⌝ }
+{
+    let n = c.next;
+    let h = c.have;
+    if n + 8 <= seg.len() {
+        return Cursor {
+            bits: c.bits | (eight_bytes(seg, n) >> h),
+            have: 56 + h % 8,
+            next: n + (7 - h / 8) as usize,
+        };
+    }
+    refill_last(seg, c)
+}
+
+// The cursor l bits further on.
+fn skip(c: Cursor, l: u64) -> Cursor
+    requires { ⌜ (l ≤ c .have) × (l ≤ 16) ⌝ }
+    ensures { λ r. ⌜ r ≡ past c l ⌝ }
+{
+    Cursor {
+        bits: c.bits << l,
+        have: c.have - l,
+        next: c.next,
+    }
+}
+
+// A number, from a cursor that has 16 bits or all that are left.
+fn number_ready(seg: &[u8], c: Cursor, n: u64) -> Taken
+    requires { ⌜ Holds (now seg) c ⌝ ∗ ⌜ Enough (now seg) c 16 ⌝ ∗ ⌜ n ≤ 16 ⌝ }
+    ensures { λ r. ⌜ Takes (now (seg .entry)) (aNumber n) c r ⌝ }
+{
+    if c.have < n {
+        return Taken::Failed(8);
+    }
+    let v = (c.bits >> 32) >> (32 - n);
+    Taken::Value(v as u32, skip(c, n))
+}
+
+// A number of n bits. Bits that are missing are never made up: refusal 8.
+pub fn number(seg: &[u8], c: Cursor, n: u64) -> Taken
+    requires { ⌜ Holds (now seg) c ⌝ ∗ ⌜ n ≤ 16 ⌝ }
+    ensures { λ r. ⌜ Takes (now (seg .entry)) (aNumber n) c r ⌝ }
+{
+    if c.have < 16 {
+        return number_ready(seg, refill(seg, c), n);
+    }
+    number_ready(seg, c, n)
+}
+
+// A sorted symbol, 0 past the end.
+fn symbol(sorted: &[u16], i: usize) -> u32
+    ensures { λ r. ⌜ r ≡ getD (now (sorted .entry)) i 0 ⌝ }
+{
+    if sorted.len() <= i {
+        return 0;
+    }
+    sorted[i] as u32
+}
+
+// A symbol whose code is too long to be looked up, length by length; 7 at once where the table has no code.
+fn draw_long(lookup: &[u32], sorted: &[u16], seg: &[u8], c: Cursor) -> Taken
+    requires { ⌜ Holds (now seg) c ⌝ ∗ ⌜ Enough (now seg) c 16 ⌝ ∗ ⌜ Usable (now lookup) (now sorted) ⌝ ∗ ⌜ Missed (now lookup) (now sorted) (now seg) («placeOf» c) ⌝ }
+    ensures { λ r. ⌜ Draws (now (lookup .entry)) (now (sorted .entry)) (now (seg .entry)) c r ⌝ }
+{
+    let longest = lookup[1] as u64;
+    if longest == 0 {
+        return Taken::Failed(7);
+    }
+    let mut k = lookup[0] as u64;
+    if c.have < k {
+        return Taken::Failed(8);
+    }
+    let window = (c.bits >> 48) as u32;
+    let mut first = lookup[2];
+    let mut offset = lookup[3];
+    while k < longest {
+        if c.have <= k {
+            return Taken::Failed(8);
+        }
+        k += 1;
+        let v = window >> (16 - k);
+        let n = lookup[8 + k as usize];
+        if v < first + n {
+            let y = symbol(sorted, (offset + (v - first)) as usize);
+            return Taken::Value(y, skip(c, k));
+        }
+        first = 2 * (first + n);
+        offset += n;
+    }
+    Taken::Failed(7)
+}
+
+// A symbol, from a cursor that has 16 bits or all that are left. Its first bits are looked up: the entry has the symbol and the
+// length of its code, or is 0.
+pub fn draw_ready(lookup: &[u32], sorted: &[u16], seg: &[u8], c: Cursor) -> Taken
+    requires { ⌜ Holds (now seg) c ⌝ ∗ ⌜ Enough (now seg) c 16 ⌝ ∗ ⌜ Usable (now lookup) (now sorted) ⌝ }
+    ensures { λ r. ⌜ ((ls : List ℕ) → Decodes ls (now (lookup .entry)) (now (sorted .entry)) → Takes (now (seg .entry)) (aSymbol ls) c r) × Near c r ⌝ }
+{
+    let width = lookup[0] as u64;
+    let i = (c.bits >> (64 - width)) as usize;
+    let e = lookup[32 + i];
+    if e == 0 {
+        return draw_long(lookup, sorted, seg, c);
+    }
+    let l = (e % 32) as u64;
+    if c.have < l {
+        return Taken::Failed(8);
+    }
+    Taken::Value(e / 32, skip(c, l))
+}
+
+// A symbol. Bits that are missing are never made up: 8 where the segment ends first, 7 where its bits begin no code.
+pub fn draw(lookup: &[u32], sorted: &[u16], seg: &[u8], c: Cursor) -> Taken
+    requires { ⌜ Holds (now seg) c ⌝ ∗ ⌜ Usable (now lookup) (now sorted) ⌝ }
+    ensures { λ r. ⌜ ((ls : List ℕ) → Decodes ls (now (lookup .entry)) (now (sorted .entry)) → Takes (now (seg .entry)) (aSymbol ls) c r) ⌝ }
+{
+    if c.have < 16 {
+        return draw_ready(lookup, sorted, seg, refill(seg, c));
+    }
+    draw_ready(lookup, sorted, seg, c)
+}
