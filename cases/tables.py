@@ -158,7 +158,7 @@ def expected(segment, operations):
             lines.append('%s %d %d' % ({NUMBER: 'number', TABLE: 'table', DRAWS: 'draws'}[kind], no.number, no.bit)
                          + (' %d %s' % (len(symbols), kept) if kind == DRAWS else ''))
             return lines, accepted, '%s refused by %d' % ({NUMBER: 'a number', TABLE: 'a table', DRAWS: 'a draw'}[kind], no.number)
-    return lines, accepted, None
+    return lines, accepted, ''
 
 
 def main():
@@ -194,9 +194,12 @@ def main():
             faults.append((segment.hex(), operations, ours, theirs))
             break
         else:
-            if refused:
-                last = said[len(accepted)] if len(said) > len(accepted) else 'accepted' if said[-1] not in ('refused', 'panicked') else said[-1]
-                beside[refused + '; the Rust: ' + ('accepted' if last[:2] in ('n ', 't ', 'd ') else last)] += 1
+            if refused.startswith('a draw'):
+                more = int(said[len(accepted) - 1].split()[1]) > int(accepted[-1].split()[1])
+                beside[refused + '; the Rust ' + ('drew on' if more else 'stopped there too')] += 1
+            elif refused:
+                theirs = said[len(accepted)] if len(said) > len(accepted) else said[-1]
+                beside[refused + '; the Rust ' + (theirs if theirs in ('refused', 'panicked') else 'accepted')] += 1
     for fault in faults:
         print('differs:', *fault)
     for what, times in sorted(beside.items()):

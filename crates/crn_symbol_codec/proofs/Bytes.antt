@@ -74,13 +74,15 @@ pub by-eight : (s : List ℕ) (q : ℕ) → spelled s (8 * q) 64 ≡ spelled s (
 by-eight s q = let e : 8 * q + 32 ≡ 8 * (q + 4) = omega arith in rw e at (field-add s (8 * q) 32 32)
 
 -- ---- the last bytes, from i to the end, in a word of 64 bits
-pub byte-more : (s : List ℕ) (i k : ℕ) → i ≤ k → getD s k 0 < 256 → spelled s (8 * i) (8 * (k + 1 - i)) ≡ spelled s (8 * i) (8 * (k - i)) * 256 + getD s k 0
+pub byte-more : (s : List ℕ) (i k : ℕ) → i ≤ k → getD s k 0 < 256
+    → spelled s (8 * i) (8 * (k + 1 - i)) ≡ spelled s (8 * i) (8 * (k - i)) * 256 + getD s k 0
 byte-more s i k h b =
     let e : 8 * (k + 1 - i) ≡ 8 * (k - i) + 8 = omega arith in
     let q : 8 * i + 8 * (k - i) ≡ 8 * k = omega arith in
     rw e (rw q at (field-add s (8 * i) (8 * (k - i)) 8) ∙ ap (λ (x : ℕ). spelled s (8 * i) (8 * (k - i)) * 256 + x) (field-byte s k b))
 
-pub all-bytes : (s : List ℕ) (i k : ℕ) → i ≤ k → k < i + 8 → length s ≤ k → spelled s (8 * i) (8 * (k - i)) * 2 ^ (8 * (8 - (k - i))) % 2 ^ 64 ≡ spelled s (8 * i) 64
+pub all-bytes : (s : List ℕ) (i k : ℕ) → i ≤ k → k < i + 8 → length s ≤ k
+    → spelled s (8 * i) (8 * (k - i)) * 2 ^ (8 * (8 - (k - i))) % 2 ^ 64 ≡ spelled s (8 * i) 64
 all-bytes s i k h l m =
     let n = 8 * (8 - (k - i)) in
     let e : 8 * (k - i) + n ≡ 64 = omega arith in

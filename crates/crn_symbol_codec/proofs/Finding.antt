@@ -70,9 +70,11 @@ module _ (cs ss s : List ℕ) (p w : ℕ) (g : ℕ → ℕ) (same : (j : ℕ) �
   find-shape : (n k f o : ℕ) → k + n < 32 → find cs ss g n k f o % 32 ≡ 0 → find cs ss g n k f o ≡ 0
   unfolding find
   find-shape zero k f o a e = refl
-  find-shape (suc n) k f o a e = go (find-shape n (k + 1) (2 * (f + getD cs (k + 1) 0)) (o + getD cs (k + 1) 0) (omega arith)) (decLt (g (k + 1)) (f + getD cs (k + 1) 0))
+  find-shape (suc n) k f o a e =
+      go (find-shape n (k + 1) (2 * (f + getD cs (k + 1) 0)) (o + getD cs (k + 1) 0) (omega arith)) (decLt (g (k + 1)) (f + getD cs (k + 1) 0))
     where
-      go : (find cs ss g n (k + 1) (2 * (f + getD cs (k + 1) 0)) (o + getD cs (k + 1) 0) % 32 ≡ 0 → find cs ss g n (k + 1) (2 * (f + getD cs (k + 1) 0)) (o + getD cs (k + 1) 0) ≡ 0)
+      go : (find cs ss g n (k + 1) (2 * (f + getD cs (k + 1) 0)) (o + getD cs (k + 1) 0) % 32 ≡ 0
+          → find cs ss g n (k + 1) (2 * (f + getD cs (k + 1) 0)) (o + getD cs (k + 1) 0) ≡ 0)
           → Dec (g (k + 1) < f + getD cs (k + 1) 0) → find cs ss g (suc n) k f o ≡ 0
       go ih (yes v) = absurd (omega (arith, simp (lt-ltb _ _ v) at e))
       go ih (no v) =
@@ -134,7 +136,9 @@ module _ (cs ss s : List ℕ) (p m w : ℕ) (wm : w ≤ m) where
   pub hit : (e : ℕ) → w < 32 → e ≡ find cs ss (front w (spelled s p w)) w 0 0 0 → (e ≡ 0 → ⊥)
       → (walk cs ss s p m 0 0 0 ≡ ifThere s p (e / 32) (e % 32)) × (0 < e % 32) × (e % 32 ≤ w)
   hit e sm is some =
-      let r = by-entry cs ss s p w (front w (spelled s p w)) (front-is s p w) w m 0 0 0 (e / 32) (e % 32) (omega arith) wm (pos (decLt 0 (e % 32))) (omega arith) sm (sym is ∙ omega arith) in
+      let g = front w (spelled s p w) in
+      let some-length = pos (decLt 0 (e % 32)) in
+      let r = by-entry cs ss s p w g (front-is s p w) w m 0 0 0 (e / 32) (e % 32) (omega arith) wm some-length (omega arith) sm (sym is ∙ omega arith) in
       (r .0, r .1, omega (arith, r .2))
     where
       pos : Dec (0 < e % 32) → 0 < e % 32

@@ -25,7 +25,8 @@ window s c n h enough l =
     go (no a) = cut-end s (h .end) (place c) n (omega (arith, h .after, h .behind, enough (omega (arith, h .after, h .behind))))
 
 -- the same in two shifts
-pub window-twice : {s : List ℕ} {c : Cursor} (a b n : ℕ) → a + b ≡ 64 - n → Holds s c → Enough s c 16 → n ≤ 16 → c .bits / 2 ^ a / 2 ^ b ≡ spelled s (place c) n
+pub window-twice : {s : List ℕ} {c : Cursor} (a b n : ℕ) → a + b ≡ 64 - n → Holds s c → Enough s c 16 → n ≤ 16
+    → c .bits / 2 ^ a / 2 ^ b ≡ spelled s (place c) n
 window-twice {s} {c} a b n e h enough l = shr-shr (c .bits) a b ∙ ap (λ (k : ℕ). c .bits / 2 ^ k) e ∙ window s c n h enough l
 
 -- ---- l bits are dropped

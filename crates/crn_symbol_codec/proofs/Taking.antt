@@ -52,6 +52,8 @@ pub takes-symbol : {ls lookup sorted seg : List ℕ} {c : Cursor} {r : Taken} �
 unfolding served
 takes-symbol {ls} {lookup} {sorted} {seg} {c} {r} t d =
     record {
-      same = λ b. took-drew (place c) b r ∙ ap (λ (x : Drawn). ofDrawn x (spot (place c) b)) (t .same ∙ walked-drawn ls lookup sorted seg (place c) d);
+      same = λ b.
+          took-drew (place c) b r
+          ∙ ap (λ (x : Drawn). ofDrawn x (spot (place c) b)) (t .same ∙ walked-drawn ls lookup sorted seg (place c) d);
       holds = t .holds;
     }

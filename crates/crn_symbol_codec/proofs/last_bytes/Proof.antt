@@ -77,7 +77,8 @@ returns-2 c =
     let a = c .before .before in
     let st = a .before .before in
     let g = st .args in
-    ap (λ (x : ℕ). x * 2 ^ (8 * (8 - (a .loop .k - g .i))) % 18446744073709551616) (a .loop .inv .2) ∙ all-bytes (g .seg .now) (g .i) (a .loop .k) (a .loop .inv .0) (omega arith) (omega arith)
+    ap (λ (x : ℕ). x * 2 ^ (8 * (8 - (a .loop .k - g .i))) % 18446744073709551616) (a .loop .inv .2)
+    ∙ all-bytes (g .seg .now) (g .i) (a .loop .k) (a .loop .inv .0) (omega arith) (omega arith)
 
 pub last-bytes-spec : {M : Type 1} → statement M
 last-bytes-spec =

@@ -33,7 +33,8 @@ returns c =
     let a = c .before .before .before .before .args in
     let h = c .before .before .before .before .pre .0 in
     let l = length (a .seg .now) - a .c .next in
-    filled l h (c .before .before .last-bytes .ensures) (omega arith) (omega arith) (omega (arith, h .some)) (omega (arith, h .within)) (λ q. omega (arith, h .within))
+    filled l h (c .before .before .last-bytes .ensures) (omega arith) (omega arith)
+    (omega (arith, h .some)) (omega (arith, h .within)) (λ q. omega (arith, h .within))
 
 mul-t9 : tie.Need-mul-t9
 mul-t9 c = search needs
@@ -49,7 +50,8 @@ returns-2 c =
     let a = c .before .before .before .before .args in
     let h = c .before .before .before .before .pre .0 in
     let l = 7 - a .c .have / 8 in
-    filled l h (c .before .before .last-bytes .ensures) (omega arith) (omega arith) (omega (arith, h .some)) (omega (arith, h .within)) (λ q. absurd (omega (arith, h .some)))
+    filled l h (c .before .before .last-bytes .ensures) (omega arith) (omega arith)
+    (omega (arith, h .some)) (omega (arith, h .within)) (λ q. absurd (omega (arith, h .some)))
 
 pub refill-last-spec : {M : Type 1} → statement M
 refill-last-spec =

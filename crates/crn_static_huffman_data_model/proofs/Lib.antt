@@ -1,0 +1,11 @@
+pub mod Finding
+pub mod Room
+pub mod Counting
+pub mod Sorting
+pub mod Filling
+pub mod Tabling
+pub mod Telling
+pub mod Sending
+pub mod Running
+pub mod Putting
+pub mod Receiving

@@ -1,0 +1,3 @@
+pub mod Building
+pub mod Receiving
+pub mod Parts

@@ -1,0 +1,51 @@
+-- `hash_of` stays in its slice. Invariant: i is at most the length.
+use Prim.Native.Nat.{_≤_, _-_}
+use lib.ListN.{length}
+use borrow.Author.Needs.{needs}
+use Rattle.crn_tables.proofs.hash_of.Statement.{statement}
+use Rattle.crn_tables.proofs.hash_of.Tie as tie
+
+abbrev Inv-loop : tie.InvT-loop
+Inv-loop bytes h₀ i₀ h i = i ≤ length bytes
+
+abbrev μ-loop : tie.MeasureT-loop
+μ-loop bytes h₀ i₀ h i = length bytes - i
+
+loop-holds : tie.Need-loop-holds Inv-loop μ-loop
+loop-holds c = search needs
+
+byte-requires : tie.Need-byte-requires Inv-loop μ-loop
+byte-requires c κs = search needs
+
+cast-hashed : tie.Need-cast-hashed Inv-loop μ-loop
+cast-hashed c = search needs
+
+hashed-requires : tie.Need-hashed-requires Inv-loop μ-loop
+hashed-requires c κs = search needs
+
+add-i : tie.Need-add-i Inv-loop μ-loop
+add-i c = search needs
+
+loop-less : tie.Need-loop-less Inv-loop μ-loop
+loop-less c = search needs
+
+loop-again : tie.Need-loop-again Inv-loop μ-loop
+loop-again c = search needs
+
+returns : tie.Need-returns Inv-loop μ-loop
+returns c = search needs
+
+pub hash-of-spec : {M : Type 1} → statement M
+hash-of-spec =
+    tie.close
+    (tie.spec
+    Inv-loop
+    μ-loop
+    loop-holds
+    byte-requires
+    cast-hashed
+    hashed-requires
+    add-i
+    loop-less
+    loop-again
+    returns)
