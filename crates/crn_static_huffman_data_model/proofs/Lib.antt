@@ -1,4 +1,3 @@
-pub mod Finding
 pub mod Room
 pub mod Counting
 pub mod Sorting

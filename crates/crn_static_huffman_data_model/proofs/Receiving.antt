@@ -5,11 +5,11 @@ use mathlib.Core.List.{List, []}
 use mathlib.Core.Path.{_≡_, refl, ap, _∙_}
 use lib.ListN.{length, replicate}
 use borrow.Author.Tests.{eq-eqb, ne-eqb, lt-ltb, le-ltb}
-use Rattle.crn_format.specs.Choice.{pick, both}
+use Rattle.crn_format.specs.Choice.{pick}
 use Rattle.crn_format.specs.Limits.{maxSymbols}
-use Rattle.crn_format.specs.Codes.{isCode, allFit}
-use Rattle.crn_format.specs.Reading.{aNumber, answer, refuse, next, got, refused, run, fromBits, Place, spot}
-use Rattle.crn_format.specs.Tables.{lengthOrder, sentLengths, lengthsFrom, checked, coded, counted, table}
+use Rattle.crn_format.specs.Codes.{isCode}
+use Rattle.crn_format.specs.Reading.{aNumber, answer, refuse, got, refused, run, fromBits, Place, spot}
+use Rattle.crn_format.specs.Tables.{lengthOrder, sentLengths, checked, coded, counted, table}
 use Rattle.crn_format.proofs.Steps.{answered, at-mark, at-refuse, go-on, stop}
 use Rattle.crn_symbol_codec.specs.Cursors.{place}
 use Rattle.crn_symbol_codec.specs.Taking.{Takes}
@@ -17,6 +17,7 @@ use Rattle.crn_symbol_codec.specs.declared.Cursor.{Cursor}
 use Rattle.crn_symbol_codec.specs.declared.Taken.{Taken}
 use Rattle.crn_symbol_codec.specs.declared.Taken.the-variants.{Value, Failed}
 use Rattle.crn_symbol_codec.proofs.Serving.{taken-value, number-refused}
+use Rattle.crn_static_huffman_data_model.specs.Parts.{allRuns}
 
 -- ---- whether lengths make a code
 
@@ -31,18 +32,11 @@ module _ (seg ls : List ℕ) (p b : ℕ) where
   pub checked-bad : isCode ls ≡ false → run (fromBits seg) (checked ls) (spot p b) ≡ refused 6 (spot p p)
   checked-bad e = checked-by e ∙ at-refuse seg 6 p p
 
--- lengths that make a code are 16 at most
-pub code-fits : (ls : List ℕ) → isCode ls ≡ true → allFit ls (length ls) ≡ true
-code-fits ls e = left _ _ e
-  where
-    left : (a b : Bool) → both a b ≡ true → a ≡ true
-    left true b e = refl
-    left false b e = e
-
 -- ---- from the code of lengths on
 
 module _ (seg : List ℕ) (count n : ℕ) (w : Place) where
-  pub coded-refused : {k : ℕ} {u : Place} → run (fromBits seg) (sentLengths n lengthOrder (replicate 21 0)) w ≡ refused k u → run (fromBits seg) (coded count n) w ≡ refused k u
+  pub coded-refused : {k : ℕ} {u : Place} → run (fromBits seg) (sentLengths n lengthOrder (replicate 21 0)) w ≡ refused k u
+      → run (fromBits seg) (coded count n) w ≡ refused k u
   unfolding coded
   coded-refused e = stop (fromBits seg) _ _ w e
 
@@ -51,7 +45,7 @@ module _ (seg : List ℕ) (count n : ℕ) (w : Place) where
     unfolding coded
     coded-bad f = go-on (fromBits seg) _ _ w e ∙ stop (fromBits seg) (checked cl) _ _ (checked-bad seg cl p b f)
 
-    pub coded-good : isCode cl ≡ true → run (fromBits seg) (coded count n) w ≡ run (fromBits seg) (next (lengthsFrom cl count count 0 []) checked) (spot p p)
+    pub coded-good : isCode cl ≡ true → run (fromBits seg) (coded count n) w ≡ run (fromBits seg) (allRuns cl count) (spot p p)
     unfolding coded
     coded-good f = go-on (fromBits seg) _ _ w e ∙ go-on (fromBits seg) (checked cl) _ _ (checked-good seg cl p b f)
 
@@ -71,7 +65,8 @@ module _ {seg : List ℕ} (count b : ℕ) {c : Cursor} {r : Taken} (t : Takes se
     unfolding counted
     counted-many h g = at-mark seg _ (place c) b ∙ taken-value t _ _ e ∙ simp (ne-eqb _ _ h, lt-ltb _ _ g) (at-refuse seg 6 (place d) (place c))
 
-    pub counted-some : (n ≡ 0 → ⊥) → n ≤ 21 → run (fromBits seg) (counted count) (spot (place c) b) ≡ run (fromBits seg) (coded count n) (spot (place d) (place c))
+    pub counted-some : (n ≡ 0 → ⊥) → n ≤ 21
+        → run (fromBits seg) (counted count) (spot (place c) b) ≡ run (fromBits seg) (coded count n) (spot (place d) (place c))
     unfolding counted
     counted-some h g = at-mark seg _ (place c) b ∙ taken-value t _ _ e ∙ simp (ne-eqb _ _ h, le-ltb _ _ g)
 
@@ -91,6 +86,7 @@ module _ {seg : List ℕ} (b : ℕ) {c : Cursor} {r : Taken} (t : Takes seg (aNu
     unfolding table
     table-many h g = at-mark seg _ (place c) b ∙ taken-value t _ _ e ∙ simp (ne-eqb _ _ h, lt-ltb _ _ g) (at-refuse seg 6 (place d) (place c))
 
-    pub table-some : (count ≡ 0 → ⊥) → count ≤ maxSymbols → run (fromBits seg) table (spot (place c) b) ≡ run (fromBits seg) (counted count) (spot (place d) (place c))
+    pub table-some : (count ≡ 0 → ⊥) → count ≤ maxSymbols
+        → run (fromBits seg) table (spot (place c) b) ≡ run (fromBits seg) (counted count) (spot (place d) (place c))
     unfolding table
     table-some h g = at-mark seg _ (place c) b ∙ taken-value t _ _ e ∙ simp (ne-eqb _ _ h, le-ltb _ _ g)

@@ -125,11 +125,3 @@ by-room t e = rw (e, longest-by-room t (fit-short t e))
 pub both-true : (b : Bool) → both b true ≡ b
 both-true true = refl
 both-true false = refl
-
--- what building asks of a code
-pub code-fits : (t : List ℕ) → isCode t ≡ true → allFit t (length t) ≡ true
-code-fits t = left (allFit t (length t)) _
-  where
-    left : (a b : Bool) → both a b ≡ true → a ≡ true
-    left true b e = refl
-    left false b e = e

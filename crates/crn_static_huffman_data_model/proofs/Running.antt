@@ -54,29 +54,33 @@ unfolding lengthsFrom
 turn-done seg cl count zero last ls w h = answered _ _ _
 turn-done seg cl count (suc turns) last ls w h = simp (le-leb _ _ h) (answered _ _ _)
 
-module _ {seg cl : List ℕ} (last : ℕ) {c : Cursor} {u : Run} (f : Runs seg (drawnRun cl last) c (place c) u) (count turns : ℕ) (ls : List ℕ) (b : ℕ) (h : length ls < count) (enough : count ≤ length ls + turns) where
-  turn-at : (m : ℕ) → run (fromBits seg) (lengthsFrom cl count (suc m) last ls) (spot (place c) b)
-      ≡ run (fromBits seg) (next (drawnRun cl last) (onward cl count m ls)) (spot (place c) (place c))
-  unfolding lengthsFrom next
-  turn-at m = simp (lt-leb _ _ h) (at-mark seg _ (place c) b)
+module _
+    {seg cl : List ℕ} (last : ℕ) {c : Cursor} {u : Run} (f : Runs seg (drawnRun cl last) c (place c) u)
+    (count turns : ℕ) (ls : List ℕ) (b : ℕ) (h : length ls < count) (enough : count ≤ length ls + turns)
+  where
+    turn-at : (m : ℕ) → run (fromBits seg) (lengthsFrom cl count (suc m) last ls) (spot (place c) b)
+        ≡ run (fromBits seg) (next (drawnRun cl last) (onward cl count m ls)) (spot (place c) (place c))
+    unfolding lengthsFrom next
+    turn-at m = simp (lt-leb _ _ h) (at-mark seg _ (place c) b)
 
-  turn : run (fromBits seg) (lengthsFrom cl count turns last ls) (spot (place c) b)
-      ≡ run (fromBits seg) (next (drawnRun cl last) (onward cl count (turns - 1) ls)) (spot (place c) (place c))
-  turn =
-      let e : turns ≡ suc (turns - 1) = omega arith in
-      ap (λ (m : ℕ). run (fromBits seg) (lengthsFrom cl count m last ls) (spot (place c) b)) e ∙ turn-at (turns - 1)
+    turn : run (fromBits seg) (lengthsFrom cl count turns last ls) (spot (place c) b)
+        ≡ run (fromBits seg) (next (drawnRun cl last) (onward cl count (turns - 1) ls)) (spot (place c) (place c))
+    turn =
+        let e : turns ≡ suc (turns - 1) = omega arith in
+        ap (λ (m : ℕ). run (fromBits seg) (lengthsFrom cl count m last ls) (spot (place c) b)) e ∙ turn-at (turns - 1)
 
-  pub turn-refused : {k : ℕ} {d : Cursor} → u ≡ Refused k d
-      → run (fromBits seg) (lengthsFrom cl count turns last ls) (spot (place c) b) ≡ refused k (spot (place d) (place d))
-  turn-refused e = turn ∙ stop (fromBits seg) (drawnRun cl last) _ _ (f .same ∙ ap (ran (place c)) e)
+    pub turn-refused : {k : ℕ} {d : Cursor} → u ≡ Refused k d
+        → run (fromBits seg) (lengthsFrom cl count turns last ls) (spot (place c) b) ≡ refused k (spot (place d) (place d))
+    turn-refused e = turn ∙ stop (fromBits seg) (drawnRun cl last) _ _ (f .same ∙ ap (ran (place c)) e)
 
-  module _ {n v : ℕ} {d : Cursor} (e : u ≡ Of n v d) where
-    along : run (fromBits seg) (lengthsFrom cl count turns last ls) (spot (place c) b) ≡ run (fromBits seg) (onward cl count (turns - 1) ls (n, v)) (spot (place d) (place c))
-    along = turn ∙ go-on (fromBits seg) (drawnRun cl last) _ _ (f .same ∙ ap (ran (place c)) e)
+    module _ {n v : ℕ} {d : Cursor} (e : u ≡ Of n v d) where
+      along : run (fromBits seg) (lengthsFrom cl count turns last ls) (spot (place c) b)
+          ≡ run (fromBits seg) (onward cl count (turns - 1) ls (n, v)) (spot (place d) (place c))
+      along = turn ∙ go-on (fromBits seg) (drawnRun cl last) _ _ (f .same ∙ ap (ran (place c)) e)
 
-    pub turn-long : count < length ls + n → run (fromBits seg) (lengthsFrom cl count turns last ls) (spot (place c) b) ≡ refused 6 (spot (place c) (place c))
-    turn-long l = along ∙ simp (lt-ltb _ _ l) (at-refuse seg 6 (place d) (place c))
+      pub turn-long : count < length ls + n → run (fromBits seg) (lengthsFrom cl count turns last ls) (spot (place c) b) ≡ refused 6 (spot (place c) (place c))
+      turn-long l = along ∙ simp (lt-ltb _ _ l) (at-refuse seg 6 (place d) (place c))
 
-    pub turn-more : length ls + n ≤ count → run (fromBits seg) (lengthsFrom cl count turns last ls) (spot (place c) b)
-        ≡ run (fromBits seg) (lengthsFrom cl count (turns - 1) v (ls ++ replicate n v)) (spot (place d) (place c))
-    turn-more l = along ∙ simp (le-ltb _ _ l)
+      pub turn-more : length ls + n ≤ count → run (fromBits seg) (lengthsFrom cl count turns last ls) (spot (place c) b)
+          ≡ run (fromBits seg) (lengthsFrom cl count (turns - 1) v (ls ++ replicate n v)) (spot (place d) (place c))
+      turn-more l = along ∙ simp (le-ltb _ _ l)

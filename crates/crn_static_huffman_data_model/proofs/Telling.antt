@@ -15,7 +15,7 @@ use Rattle.crn_symbol_codec.specs.Cursors.{place}
 use Rattle.crn_symbol_codec.specs.declared.Cursor.{Cursor}
 use Rattle.crn_static_huffman_data_model.specs.declared.Received.{Received}
 use Rattle.crn_static_huffman_data_model.specs.Receiving.{said, Receives}
-use Rattle.crn_static_huffman_data_model.specs.Parts.{declined, Accepts, Tells}
+use Rattle.crn_static_huffman_data_model.specs.Parts.{declined, Accepts, Tells, TellsAt}
 
 module _ {A : Type 0} (k p : ℕ) (a : A) (b : ℕ) where
   pub said-got : k ≡ 0 → said k p a b ≡ got a (spot p b)
@@ -40,16 +40,23 @@ module _ (seg : List ℕ) (home : Cursor) where
   tells-same r e t = rw e t
 
 -- the answer as `receive` gives it
-pub receives : {seg : List ℕ} {c : Cursor} {r : Received} → ((b : ℕ) → Tells seg c (run (fromBits seg) table (spot (place c) b)) r) → Receives seg c r
+pub receives : {seg : List ℕ} {c : Cursor} {r : Received} → TellsAt seg table c c r → Receives seg c r
 unfolding table
-receives {seg} {c} {r} t = go (run (fromBits seg) table (spot (place c) (place c))) (λ b. at-mark seg _ (place c) b ∙ sym (at-mark seg _ (place c) (place c))) (t (place c))
+receives {seg} {c} {r} t =
+    go (run (fromBits seg) table (spot (place c) (place c)))
+    (λ b. at-mark seg _ (place c) b ∙ sym (at-mark seg _ (place c) (place c)))
+    (t (place c))
   where
     go : (o : Step Place (List ℕ)) → ((b : ℕ) → run (fromBits seg) table (spot (place c) b) ≡ o) → Tells seg c o r → Receives seg c r
     go (got ls w) e a =
         let l : lengthsOf (r .table) ≡ ls = ap lengthsOf (a .table) ∙ take-append-seam ls _ in
         record {
           blamed = w .blamed;
-          same = λ b. e b ∙ sym (said-got (r .refusal) (r .at) (lengthsOf (r .table)) (w .blamed) (a .none) ∙ ap (λ (s : List ℕ). got s (spot (r .at) (w .blamed))) l ∙ ap (λ (p : ℕ). got ls (spot p (w .blamed))) (a .after));
+          same = λ b.
+              e b
+              ∙ ap (λ (p : ℕ). got ls (spot p (w .blamed))) (sym (a .after))
+              ∙ ap (λ (s : List ℕ). got s (spot (r .at) (w .blamed))) (sym l)
+              ∙ sym (said-got (r .refusal) (r .at) (lengthsOf (r .table)) (w .blamed) (a .none));
           whole = a .table ∙ ap tableOf (sym l);
           goes = λ _. (a .holds, a .there ∙ sym (a .after));
           stays = λ n. absurd (n (a .none));
@@ -60,7 +67,11 @@ receives {seg} {c} {r} t = go (run (fromBits seg) table (spot (place c) (place c
         let h = d .some in
         record {
           blamed = 0;
-          same = λ b. e b ∙ ap (refused k) (d .names) ∙ sym (said-refused (r .refusal) (r .at) (lengthsOf (r .table)) 0 (λ z. omega arith) ∙ ap (λ (n : ℕ). refused n (spot (r .at) (r .at))) k-is);
+          same = λ b.
+              e b
+              ∙ ap (refused k) (d .names)
+              ∙ ap (λ (n : ℕ). refused n (spot (r .at) (r .at))) (sym k-is)
+              ∙ sym (said-refused (r .refusal) (r .at) (lengthsOf (r .table)) 0 (λ z. omega arith));
           whole = empty ∙ ap (λ (t : Table). tableOf (lengthsOf t)) (sym empty);
           goes = λ z. absurd (omega arith);
           stays = λ _. (empty, ap (λ (x : Received). x .cursor) (d .is));

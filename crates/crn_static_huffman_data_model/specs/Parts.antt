@@ -3,8 +3,8 @@ use Prim.Native.Nat.{ℕ, _+_, _<_}
 use mathlib.Core.Path.{_≡_}
 use mathlib.Core.List.{List, []}
 use lib.ListN.{length, replicate}
-use Rattle.crn_format.specs.Reading.{Reading, draw, number, answer, Step, got, refused, Place, spot, run, fromBits}
-use Rattle.crn_format.specs.Tables.{lengthOrder, sentLengths, again, runOf}
+use Rattle.crn_format.specs.Reading.{Reading, draw, number, answer, next, Step, got, refused, Place, spot, run, fromBits}
+use Rattle.crn_format.specs.Tables.{lengthOrder, sentLengths, again, runOf, lengthsFrom, checked}
 use Rattle.crn_format.specs.Opening.{tableOf}
 use Rattle.crn_symbol_codec.specs.Cursors.{place, Holds}
 use Rattle.crn_symbol_codec.specs.Decoders.{Decodes}
@@ -40,6 +40,10 @@ lastRun n base last = number n λ x. again last (base + x)
 -- a run, from its length symbol in the code cl on
 abbrev pub drawnRun : List ℕ → ℕ → Reading (ℕ × ℕ)
 drawnRun cl last = draw cl (runOf last)
+
+-- all runs of `count` lengths, which have to make a code
+abbrev pub allRuns : List ℕ → ℕ → Reading (List ℕ)
+allRuns cl count = next (lengthsFrom cl count count 0 []) checked
 
 -- the answer as a step over the segment's bits, where b is blamed
 abbrev pub ran : ℕ → Run → Step Place (ℕ × ℕ)
@@ -80,3 +84,7 @@ pub record Declines (home : Cursor) (k : ℕ) (w : Place) (r : Received) : Type 
 abbrev pub Tells : List ℕ → Cursor → Step Place (List ℕ) → Received → Type 0
 Tells seg home (got ls w) r = Accepts seg ls (w .at) r
 Tells seg home (refused k w) r = Declines home k w r
+
+-- the same of the reading m at the cursor c, whatever is blamed before it
+abbrev pub TellsAt : List ℕ → Reading (List ℕ) → Cursor → Cursor → Received → Type 0
+TellsAt seg m c home r = (b : ℕ) → Tells seg home (run (fromBits seg) m (spot (place c) b)) r

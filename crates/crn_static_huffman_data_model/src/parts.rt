@@ -1,15 +1,15 @@
 // The parts of a code table as it is sent (document 01, Codes).
 ghost use mathlib.Core.Path.{_≡_};
-ghost use mathlib.Core.List.{List, []};
+ghost use mathlib.Core.List.{List};
 ghost use Prim.Native.Nat.{ℕ, _+_, _<_, _≤_};
 ghost use lib.ListN.{length, replicate};
 ghost use lib.Seq.{paste};
 ghost use Rattle.crn_format.specs.Limits.{maxSymbols, tooLong};
-ghost use Rattle.crn_format.specs.Reading.{spot, run, fromBits, next as «and-then»};
-ghost use Rattle.crn_format.specs.Tables.{runOf, lengthsFrom, checked, coded, counted};
+ghost use Rattle.crn_format.specs.Reading.{spot, run, fromBits};
+ghost use Rattle.crn_format.specs.Tables.{runOf, coded, counted};
 ghost use Rattle.crn_symbol_codec.specs.Cursors.{place as «placeOf», Holds};
 ghost use Rattle.crn_symbol_codec.specs.Decoders.{Decodes};
-ghost use Rattle.crn_static_huffman_data_model.specs.Parts.{Sends, zeroRun, lastRun, drawnRun, Runs, SomeCode, declined, Tells};
+ghost use Rattle.crn_static_huffman_data_model.specs.Parts.{Sends, zeroRun, lastRun, drawnRun, allRuns, Runs, SomeCode, declined, Tells, TellsAt};
 use crate::Received;
 use crate::build;
 use crate::is_code;
@@ -19,6 +19,7 @@ use crn_symbol_codec::Taken;
 use crn_symbol_codec::draw;
 use crn_symbol_codec::number;
 use crn_symbol_codec::place;
+use crn_symbol_codec::refusal;
 
 // The lengths of the code of lengths: refusal 0 and the cursor after them; or the refusal and the cursor at the bit that it names.
 struct Sent {
@@ -139,10 +140,11 @@ fn next_run(lookup: &[u32], sorted: &[u16], seg: &[u8], c: Cursor, last: u8) -> 
     requires { ⌜ Holds (now seg) c ⌝ ∗ ⌜ SomeCode (now lookup) (now sorted) ⌝ }
     ensures { λ r. ⌜ ((cl : List ℕ) → Decodes cl (now (lookup .entry)) (now (sorted .entry)) → Runs (now (seg .entry)) (drawnRun cl last) c («placeOf» c) r) ⌝ }
 {
-    match draw(lookup, sorted, seg, c) {
-        Taken::Value(s, d) => run_of(seg, s, last, d, c),
-        Taken::Failed(k) => Run::Refused(k, c),
-    }
+    let t = draw(lookup, sorted, seg, c);
+    let Taken::Value(s, d) = t else {
+        return Run::Refused(refusal(t), c);
+    };
+    run_of(seg, s, last, d, c)
 }
 
 // The lengths of `count` symbols, run by run, in the code of a decoder table. They have to make a code themselves.
@@ -155,7 +157,7 @@ fn table_by_runs(
     home: Cursor,
 ) -> Received
     requires { ⌜ Holds (now seg) c ⌝ ∗ ⌜ length (now seg) < tooLong ⌝ ∗ ⌜ count ≤ maxSymbols ⌝ ∗ ⌜ SomeCode (now lookup) (now sorted) ⌝ }
-    ensures { λ r. ⌜ ((cl : List ℕ) → Decodes cl (now (lookup .entry)) (now (sorted .entry)) → Tells (now (seg .entry)) home (run (fromBits (now (seg .entry))) («and-then» (lengthsFrom cl count count 0 []) checked) (spot («placeOf» c) («placeOf» c))) r) ⌝ }
+    ensures { λ r. ⌜ ((cl : List ℕ) → Decodes cl (now (lookup .entry)) (now (sorted .entry)) → Tells (now (seg .entry)) home (run (fromBits (now (seg .entry))) (allRuns cl count) (spot («placeOf» c) («placeOf» c))) r) ⌝ }
 {
     let mut lengths = [0u8; 8192];
     let mut done: usize = 0;
@@ -194,7 +196,7 @@ fn table_by_runs(
 // A table of `count` symbols, from the n lengths of the code of lengths on.
 fn coded_table(seg: &[u8], c: Cursor, count: usize, n: usize, home: Cursor) -> Received
     requires { ⌜ Holds (now seg) c ⌝ ∗ ⌜ length (now seg) < tooLong ⌝ ∗ ⌜ (count ≤ maxSymbols) × (n ≤ 21) ⌝ }
-    ensures { λ r. ⌜ ((b : ℕ) → Tells (now (seg .entry)) home (run (fromBits (now (seg .entry))) (coded count n) (spot («placeOf» c) b)) r) ⌝ }
+    ensures { λ r. ⌜ TellsAt (now (seg .entry)) (coded count n) c home r ⌝ }
 {
     let sent = sent_lengths(seg, c, n);
     let refusal = sent.refusal;
@@ -215,7 +217,7 @@ fn coded_table(seg: &[u8], c: Cursor, count: usize, n: usize, home: Cursor) -> R
 // A table of `count` symbols, from the number of lengths of the code of lengths on.
 pub fn counted_table(seg: &[u8], c: Cursor, count: usize, home: Cursor) -> Received
     requires { ⌜ Holds (now seg) c ⌝ ∗ ⌜ length (now seg) < tooLong ⌝ ∗ ⌜ count ≤ maxSymbols ⌝ }
-    ensures { λ r. ⌜ ((b : ℕ) → Tells (now (seg .entry)) home (run (fromBits (now (seg .entry))) (counted count) (spot («placeOf» c) b)) r) ⌝ }
+    ensures { λ r. ⌜ TellsAt (now (seg .entry)) (counted count) c home r ⌝ }
 {
     let Taken::Value(n, d) = number(seg, c, 5) else {
         return refused(seg, 8, c, home);

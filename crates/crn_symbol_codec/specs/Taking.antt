@@ -13,6 +13,11 @@ abbrev pub took : ℕ → ℕ → Taken → Step Place ℕ
 took p b (Value v d) = got v (spot (place d) b)
 took p b (Failed n) = refused n (spot p p)
 
+-- the refusal of an answer; 0 where there is a value
+abbrev pub refusalOf : Taken → ℕ
+refusalOf (Value v d) = 0
+refusalOf (Failed n) = n
+
 -- the next cursor, where there is one, holds
 abbrev pub On : List ℕ → Taken → Type 0
 On seg (Value v d) = Holds seg d

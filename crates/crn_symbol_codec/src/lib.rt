@@ -7,7 +7,7 @@ ghost use Rattle.crn_format.specs.Limits.{tooLong};
 ghost use Rattle.crn_format.specs.Bits.{spelled};
 ghost use Rattle.crn_format.specs.Reading.{aSymbol, aNumber};
 ghost use Rattle.crn_symbol_codec.specs.Cursors.{place as «placeOf», past, Holds, Enough, Filled};
-ghost use Rattle.crn_symbol_codec.specs.Taking.{Takes, Near};
+ghost use Rattle.crn_symbol_codec.specs.Taking.{refusalOf, Takes, Near};
 ghost use Rattle.crn_symbol_codec.specs.Decoders.{Usable, Decodes};
 ghost use Rattle.crn_symbol_codec.specs.Drawing.{Missed, Draws};
 
@@ -22,6 +22,16 @@ pub struct Cursor {
 pub enum Taken {
     Value(u32, Cursor),
     Failed(u32),
+}
+
+// The refusal of an answer, for the `else` of a `let`; 0 where there is a value.
+pub fn refusal(t: Taken) -> u32
+    ensures { λ r. ⌜ r ≡ refusalOf t ⌝ }
+{
+    match t {
+        Taken::Value(_, _) => 0,
+        Taken::Failed(n) => n,
+    }
 }
 
 // At the segment's first bit.

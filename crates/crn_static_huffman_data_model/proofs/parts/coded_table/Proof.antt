@@ -4,7 +4,8 @@ use native.Mathlib.Omega.{arith}
 use borrow.Author.Tests.{not-true, not-false}
 use borrow.Author.Needs.{needs}
 use Rattle.crn_static_huffman_data_model.proofs.Telling.{said-got, said-refused, tells-declined, tells-same}
-use Rattle.crn_static_huffman_data_model.proofs.Receiving.{code-fits, coded-refused, coded-bad, coded-good}
+use Rattle.crn_format.proofs.Kraft.{code-fits}
+use Rattle.crn_static_huffman_data_model.proofs.Receiving.{coded-refused, coded-bad, coded-good}
 use Rattle.crn_static_huffman_data_model.proofs.parts.coded_table.Statement.{statement}
 use Rattle.crn_static_huffman_data_model.proofs.parts.coded_table.Tie as tie
 
@@ -16,8 +17,9 @@ refused-requires c κs = search needs
 
 returns : tie.Need-returns
 returns c =
+    let sent = c .before .before .before .before .sent-lengths .ensures in
     λ b.
-    tells-declined _ _ (coded-refused _ _ _ _ (c .before .before .before .before .sent-lengths .ensures .same b ∙ said-refused _ _ _ _ (c .before .if1 .taken))) (omega arith) (c .refused .ensures)
+    tells-declined _ _ (coded-refused _ _ _ _ (sent .same b ∙ said-refused _ _ _ _ (c .before .if1 .taken))) (omega arith) (c .refused .ensures)
 
 slice-aggregate-is-code : tie.Need-slice-aggregate-is-code
 slice-aggregate-is-code c = search needs
@@ -30,11 +32,9 @@ refused-requires-2 c κs = search needs
 
 returns-2 : tie.Need-returns-2
 returns-2 c =
-    λ b.
-    tells-declined _ _
-    (coded-bad _ _ _ _ (c .before .before .before .before .before .before .before .sent-lengths .ensures .same b ∙ said-got _ _ _ _ (c .before .before .before .before .if1 .left)) (sym (c .before .before .is-code .ensures) ∙ not-true _ (c .before .if2 .taken)))
-    (omega arith)
-    (c .refused2 .ensures)
+    let sent = c .before .before .before .before .before .before .before .sent-lengths .ensures in
+    let bad = sym (c .before .before .is-code .ensures) ∙ not-true _ (c .before .if2 .taken) in
+    λ b. tells-declined _ _ (coded-bad _ _ _ _ (sent .same b ∙ said-got _ _ _ _ (c .before .before .before .before .if1 .left)) bad) (omega arith) (c .refused2 .ensures)
 
 slice-aggregate-build : tie.Need-slice-aggregate-build
 slice-aggregate-build c = search needs
@@ -46,7 +46,9 @@ slice-aggregate-build-3 : tie.Need-slice-aggregate-build-3
 slice-aggregate-build-3 c = search needs
 
 build-requires : tie.Need-build-requires
-build-requires c κs = ((search needs, code-fits _ (sym (c .before .before .before .before .is-code .ensures) ∙ not-false _ (c .before .before .before .if2 .left))), search needs)
+build-requires c κs =
+    let good = sym (c .before .before .before .before .is-code .ensures) ∙ not-false _ (c .before .before .before .if2 .left) in
+    ((search needs, code-fits _ good), search needs)
 
 slice-aggregate-table-by-runs : tie.Need-slice-aggregate-table-by-runs
 slice-aggregate-table-by-runs c = search needs
@@ -59,10 +61,11 @@ table-by-runs-requires c κs = search needs
 
 returns-3 : tie.Need-returns-3
 returns-3 c =
-    λ b.
-    tells-same _ _ _
-    (coded-good _ _ _ _ (c .before .before .before .before .before .before .before .before .before .before .before .before .before .before .before .sent-lengths .ensures .same b ∙ said-got _ _ _ _ (c .before .before .before .before .before .before .before .before .before .before .before .before .if1 .left)) (sym (c .before .before .before .before .before .before .before .before .before .before .is-code .ensures) ∙ not-false _ (c .before .before .before .before .before .before .before .before .before .if2 .left)))
-    (c .table-by-runs .ensures _ (c .before .before .before .before .before .build .ensures))
+    let tested = c .before .before .before .before .before .before .before .before .before in
+    let sent = tested .before .before .before .before .before .before .sent-lengths .ensures in
+    let good = sym (tested .before .is-code .ensures) ∙ not-false _ (tested .if2 .left) in
+    let runs = c .table-by-runs .ensures _ (c .before .before .before .before .before .build .ensures) in
+    λ b. tells-same _ _ _ (coded-good _ _ _ _ (sent .same b ∙ said-got _ _ _ _ (tested .before .before .before .if1 .left)) good) runs
 
 pub coded-table-spec : {M : Type 1} → statement M
 coded-table-spec =

@@ -1,34 +1,50 @@
 -- A length symbol is drawn, and what it adds is read.
-use mathlib.Core.Path.{_∙_}
-use borrow.Author.Needs.{needs}
+use mathlib.Core.Path.{sym, ap, _∙_}
+use Rattle.crn_symbol_codec.specs.Taking.{refusalOf}
 use Rattle.crn_symbol_codec.proofs.Serving.{taken-value, taken-failed, taken-holds, failed-some}
+use borrow.Author.Needs.{needs}
 use Rattle.crn_static_huffman_data_model.proofs.parts.next_run.Statement.{statement}
 use Rattle.crn_static_huffman_data_model.proofs.parts.next_run.Tie as tie
 
 draw-requires : tie.Need-draw-requires
 draw-requires c κs = search needs
 
-enum-known-s : tie.Need-enum-known-s
-enum-known-s c = search needs
+enum-known-t : tie.Need-enum-known-t
+enum-known-t c = search needs
+
+enum-told : tie.Need-enum-told
+enum-told c = search needs
+
+refusal-requires : tie.Need-refusal-requires
+refusal-requires c κs = search needs
+
+returns : tie.Need-returns
+returns c =
+    λ cl d.
+    let t = c .before .before .before .draw .ensures cl d in
+    let e = c .before .enum-told .given .1 in
+    let n = c .refusal .ensures ∙ ap refusalOf e in
+    rw n (record { same = taken-failed t _ _ e; holds = (c .before .before .before .before .before .before .before .pre .0, failed-some t e) })
 
 run-of-requires : tie.Need-run-of-requires
 run-of-requires c κs =
     let code = c .before .before .before .before .before .before .before .pre .1 in
-    (taken-holds (c .before .before .before .draw .ensures (code .code) (code .decodes)) (c .before .s .given .1), c .before .before .before .before .before .before .before .pre .0)
-
-enum-known-k : tie.Need-enum-known-k
-enum-known-k c = search needs
-
-returns : tie.Need-returns
-returns c = λ cl d. record { same = taken-value (c .before .before .before .before .draw .ensures cl d) _ _ (c .before .before .s .given .1) ∙ c .run-of .ensures .same; holds = c .run-of .ensures .holds }
+    let t = c .before .before .before .draw .ensures (code .code) (code .decodes) in
+    (taken-holds t (c .before .t .given .1), c .before .before .before .before .before .before .before .pre .0)
 
 returns-2 : tie.Need-returns-2
 returns-2 c =
-    λ cl d.
-    let t = c .before .before .before .draw .ensures cl d in
-    let e = c .before .k .given .1 in
-    record { same = taken-failed t _ _ e; holds = (c .before .before .before .before .before .before .before .pre .0, failed-some t e) }
+    let r = c .run-of .ensures in
+    λ cl d. record { same = taken-value (c .before .before .before .before .draw .ensures cl d) _ _ (c .before .before .t .given .1) ∙ r .same; holds = r .holds }
 
 pub next-run-spec : {M : Type 1} → statement M
 next-run-spec =
-    tie.close (tie.spec draw-requires enum-known-s run-of-requires enum-known-k returns returns-2)
+    tie.close
+    (tie.spec
+    draw-requires
+    enum-known-t
+    enum-told
+    refusal-requires
+    returns
+    run-of-requires
+    returns-2)

@@ -43,7 +43,11 @@ loop-less c = search needs
 loop-again : tie.Need-loop-again Inv-loop μ-loop
 loop-again c =
     let a = c .before .before .args in
-    (omega arith, turn (a .lengths .now) (a .at) (a .count) (a .v) (c .before .loop .j) (c .before .loop .lengths) (omega arith) (c .loop-test .taken) (c .before .loop .inv .1), simp length-set (omega arith))
+    let x = c .before .loop in (
+      omega arith,
+      turn (a .lengths .now) (a .at) (a .count) (a .v) (x .j) (x .lengths) (omega arith) (c .loop-test .taken) (x .inv .1),
+      simp length-set (omega arith),
+    )
 
 same-length : tie.Need-same-length Inv-loop μ-loop
 same-length c = search needs

@@ -21,7 +21,9 @@ returns c = run-failed (c .before .before .number .ensures) _ _ (c .enum-told .g
 
 returns-2 : tie.Need-returns-2
 returns-2 c =
-    record { same = taken-value (c .before .before .before .before .number .ensures) _ _ (c .before .before .x .given .1) ∙ again-none _ _ _ _ _ (c .if1 .taken); holds = (c .before .before .before .before .before .before .pre .1 .0, omega arith) }
+    let t = c .before .before .before .before .number .ensures in
+    let e = c .before .before .x .given .1 in
+    record { same = taken-value t _ _ e ∙ again-none _ _ _ _ _ (c .if1 .taken); holds = (c .before .before .before .before .before .before .pre .1 .0, omega arith) }
 
 cast-t11 : tie.Need-cast-t11
 cast-t11 c = search needs

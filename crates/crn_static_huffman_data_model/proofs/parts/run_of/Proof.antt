@@ -21,7 +21,9 @@ returns-2 : tie.Need-returns-2
 unfolding runOf
 returns-2 c =
     let r = c .zeros .ensures _ in
-    record { same = simp (lt-leb _ _ (c .before .before .if1 .left), eq-eqb _ _ (c .before .if2 .taken)) (r .same); holds = r .holds }
+    let above = lt-leb _ _ (c .before .before .if1 .left) in
+    let is-17 = eq-eqb _ _ (c .before .if2 .taken) in
+    record { same = simp (above, is-17) (r .same); holds = r .holds }
 
 zeros-requires-2 : tie.Need-zeros-requires-2
 zeros-requires-2 c κs = search needs
@@ -30,7 +32,10 @@ returns-3 : tie.Need-returns-3
 unfolding runOf
 returns-3 c =
     let r = c .zeros2 .ensures _ in
-    record { same = simp (lt-leb _ _ (c .before .before .before .if1 .left), ne-eqb _ _ (c .before .before .if2 .left), eq-eqb _ _ (c .before .if3 .taken)) (r .same); holds = r .holds }
+    let above = lt-leb _ _ (c .before .before .before .if1 .left) in
+    let not-17 = ne-eqb _ _ (c .before .before .if2 .left) in
+    let is-18 = eq-eqb _ _ (c .before .if3 .taken) in
+    record { same = simp (above, not-17, is-18) (r .same); holds = r .holds }
 
 repeat-requires : tie.Need-repeat-requires
 repeat-requires c κs = search needs
@@ -39,7 +44,11 @@ returns-4 : tie.Need-returns-4
 unfolding runOf
 returns-4 c =
     let r = c .repeat .ensures in
-    record { same = simp (lt-leb _ _ (c .before .before .before .before .if1 .left), ne-eqb _ _ (c .before .before .before .if2 .left), ne-eqb _ _ (c .before .before .if3 .left), eq-eqb _ _ (c .before .if4 .taken)) (r .same); holds = r .holds }
+    let above = lt-leb _ _ (c .before .before .before .before .if1 .left) in
+    let not-17 = ne-eqb _ _ (c .before .before .before .if2 .left) in
+    let not-18 = ne-eqb _ _ (c .before .before .if3 .left) in
+    let is-19 = eq-eqb _ _ (c .before .if4 .taken) in
+    record { same = simp (above, not-17, not-18, is-19) (r .same); holds = r .holds }
 
 repeat-requires-2 : tie.Need-repeat-requires-2
 repeat-requires-2 c κs = search needs
@@ -48,7 +57,11 @@ returns-5 : tie.Need-returns-5
 unfolding runOf
 returns-5 c =
     let r = c .repeat2 .ensures in
-    record { same = simp (lt-leb _ _ (c .before .before .before .before .if1 .left), ne-eqb _ _ (c .before .before .before .if2 .left), ne-eqb _ _ (c .before .before .if3 .left), ne-eqb _ _ (c .before .if4 .left)) (r .same); holds = r .holds }
+    let above = lt-leb _ _ (c .before .before .before .before .if1 .left) in
+    let not-17 = ne-eqb _ _ (c .before .before .before .if2 .left) in
+    let not-18 = ne-eqb _ _ (c .before .before .if3 .left) in
+    let not-19 = ne-eqb _ _ (c .before .if4 .left) in
+    record { same = simp (above, not-17, not-18, not-19) (r .same); holds = r .holds }
 
 pub run-of-spec : {M : Type 1} → statement M
 run-of-spec =

@@ -70,9 +70,11 @@ returns c =
     let i = x .inv in
     let most = c .before .before .before .before .before .before .before .before .before .before .before .pre .1 .1 .0 in
     let l = length-take-le (x .done) (x .lengths) (omega arith) in
+    let e = c .before .before .before .n .given .1 in
     λ cl d.
+    let r = c .before .before .before .before .before .next-run .ensures cl d in
     tells-declined _ _
-    (stop _ _ _ _ (sym (i .same cl d) ∙ turn-long _ (c .before .before .before .before .before .next-run .ensures cl d) _ _ _ _ (omega arith) (omega (arith, i .enough)) (c .before .before .before .n .given .1) (omega arith)))
+    (stop _ _ _ _ (sym (i .same cl d) ∙ turn-long _ r _ _ _ _ (omega arith) (omega (arith, i .enough)) e (omega arith)))
     (omega arith)
     (c .refused .ensures)
 
@@ -88,7 +90,8 @@ add-done c = search needs
 loop-less : tie.Need-loop-less Inv-loop μ-loop
 loop-less c =
     let code = c .before .before .before .before .before .before .before .before .before .before .before .before .before .pre .1 .1 .1 in
-    let h = run-holds (c .before .before .before .before .before .before .before .next-run .ensures (code .code) (code .decodes)) (c .before .before .before .before .before .n .given .1) in
+    let r = c .before .before .before .before .before .before .before .next-run .ensures (code .code) (code .decodes) in
+    let h = run-holds r (c .before .before .before .before .before .n .given .1) in
     omega (arith, h .1)
 
 loop-again : tie.Need-loop-again Inv-loop μ-loop
@@ -101,7 +104,8 @@ loop-again c =
     let v = c .before .before .before .before .before .n .given .0 .1 .0 in
     let after = c .before .before .before .before .before .n .given .0 .1 .1 .0 in
     let e = c .before .before .before .before .before .n .given .1 in
-    let h = run-holds (c .before .before .before .before .before .before .before .next-run .ensures (code .code) (code .decodes)) e in
+    let ran = c .before .before .before .before .before .before .before .next-run in
+    let h = run-holds (ran .ensures (code .code) (code .decodes)) e in
     let l = length-take-le (x .done) (x .lengths) (omega arith) in
     let put = c .before .put-run .ensures in
     let m = ap length put ∙ run-length (x .lengths) (x .done) n v (omega arith) in
@@ -116,7 +120,7 @@ loop-again c =
       same = λ cl d.
           ap (λ (ls : List ℕ). run (fromBits (s .args .seg .now)) (lengthsFrom cl (s .args .count) (i .turns - 1) v ls) (spot (place after) (place (x .at))))
           (ap (take (x .done + n)) put ∙ run-front (x .lengths) (x .done) n v (omega arith))
-          ∙ sym (turn-more _ (c .before .before .before .before .before .before .before .next-run .ensures cl d) _ _ _ _ (omega arith) (omega (arith, i .enough)) e (omega arith))
+          ∙ sym (turn-more _ (ran .ensures cl d) _ _ _ _ (omega arith) (omega (arith, i .enough)) e (omega arith))
           ∙ i .same cl d;
     }
 
@@ -160,9 +164,10 @@ returns-3 c =
     let i = x .inv in
     let all : x .done ≡ c .before .before .before .before .before .before .before .before .before .args .count = omega arith in
     let l = length-take-le (x .done) (x .lengths) (omega arith) in
+    let bad = sym (c .before .before .is-code .ensures) ∙ not-true _ (c .before .if2 .taken) in
     λ cl d.
     tells-declined _ _
-    (go-on _ _ _ _ (sym (i .same cl d) ∙ turn-done _ _ _ _ _ _ _ (omega arith)) ∙ checked-bad _ _ _ _ (rw all (sym (c .before .before .is-code .ensures) ∙ not-true _ (c .before .if2 .taken))))
+    (go-on _ _ _ _ (sym (i .same cl d) ∙ turn-done _ _ _ _ _ _ _ (omega arith)) ∙ checked-bad _ _ _ _ (rw all bad))
     (omega arith)
     (c .refused3 .ensures)
 
@@ -178,9 +183,10 @@ returns-4 c =
     let i = x .inv in
     let all : x .done ≡ c .before .before .before .before .before .before .before .before .before .args .count = omega arith in
     let l = length-take-le (x .done) (x .lengths) (omega arith) in
+    let good = sym (c .before .before .is-code .ensures) ∙ not-false _ (c .before .if2 .left) in
     λ cl d.
     tells-accepted _ _
-    (go-on _ _ _ _ (sym (i .same cl d) ∙ turn-done _ _ _ _ _ _ _ (omega arith)) ∙ checked-good _ _ _ _ (rw all (sym (c .before .before .is-code .ensures) ∙ not-false _ (c .before .if2 .left))))
+    (go-on _ _ _ _ (sym (i .same cl d) ∙ turn-done _ _ _ _ _ _ _ (omega arith)) ∙ checked-good _ _ _ _ (rw all good))
     (record { none = refl; after = c .place .ensures; holds = i .holds; there = refl; table = rw all (table-whole (x .lengths) _ (omega arith) (rw all at (i .rest))) })
 
 pub table-by-runs-spec : {M : Type 1} → statement M
