@@ -1,0 +1,80 @@
+// The header look: refusal 1, 2 or 3, or the header.
+use crate::bounds::sizes_hold;
+use crate::bounds::within_limits;
+use crate::header::header_of;
+use crate::header::is_signed;
+use crn_format::Header;
+use crn_format::Part;
+ghost use mathlib.Core.Path.{_≡_};
+ghost use Rattle.crn_decomp.specs.Look.{emptyHeader, no, lookOf};
+
+// Refusal 0 with the header; else the number of the refusal, with the empty header.
+#[repr(C)]
+pub struct Looked {
+    pub refusal: u32,
+    pub header: Header,
+}
+
+// What a refusal gives for a header: every field 0.
+fn empty_header() -> Header
+    ensures { λ r. ⌜ r ≡ emptyHeader ⌝ }
+{
+    let none = Part {
+        offset: 0,
+        size: 0,
+        count: 0,
+    };
+    Header {
+        header_size: 0,
+        header_crc16: 0,
+        data_size: 0,
+        data_crc16: 0,
+        width: 0,
+        height: 0,
+        levels: 0,
+        faces: 0,
+        format: 0,
+        flags: 0,
+        reserved: 0,
+        userdata0: 0,
+        userdata1: 0,
+        color_endpoints: none,
+        color_selectors: none,
+        alpha_endpoints: none,
+        alpha_selectors: none,
+        tables_size: 0,
+        tables_offset: 0,
+        level_offsets: [0; 13],
+    }
+}
+
+// A refusal.
+fn refused(refusal: u32) -> Looked
+    ensures { λ r. ⌜ r ≡ no refusal ⌝ }
+{
+    let header = empty_header();
+    Looked {
+        refusal: refusal,
+        header: header,
+    }
+}
+
+// "Opening: 1, 2, 3": in this order, without the streams.
+pub fn look(file: &[u8]) -> Looked
+    ensures { λ r. ⌜ r ≡ lookOf (now (file .entry)) ⌝ }
+{
+    if !is_signed(file) {
+        return refused(1);
+    }
+    let header = header_of(file);
+    if !within_limits(header) {
+        return refused(2);
+    }
+    if !sizes_hold(file, header) {
+        return refused(3);
+    }
+    Looked {
+        refusal: 0,
+        header: header,
+    }
+}
