@@ -102,7 +102,136 @@ def table(reader):
     return lengths
 
 
-# ------------------------------------------------------------------ hashes
+# ------------------------------------------------------------------ palettes
+
+def color_endpoints(reader, count):
+    tables, v, words = [table(reader), table(reader)], [0] * 6, []
+    for _ in range(count):
+        for i, which in enumerate([0, 1, 0, 0, 1, 0]):
+            v[i] = (v[i] + reader.draw(tables[which])[0]) % (64 if which else 32)
+        a, b, c, d, e, f = v
+        words.append(c + 32 * b + 2048 * a + (f << 16) + (e << 21) + (d << 27))
+    return words
+
+
+def alpha_endpoints(reader, count):
+    deltas, v, words = table(reader), [0, 0], []
+    for _ in range(count):
+        for i in range(2):
+            v[i] = (v[i] + reader.draw(deltas)[0]) % 256
+        words.append(v[0] + 256 * v[1])
+    return words
+
+
+def selectors(reader, count, top, from_linear, width):
+    """Sixteen running values from 0 to top; the packed bits of each entry."""
+    deltas, v, entries, n = table(reader), [0] * 16, [], 2 * top + 1
+    for _ in range(count):
+        for j in range(8):
+            symbol, at = reader.draw(deltas)
+            if symbol >= n * n:
+                raise Refusal(9, at)
+            v[2 * j] = (v[2 * j] + symbol % n - top) % (top + 1)
+            v[2 * j + 1] = (v[2 * j + 1] + symbol // n - top) % (top + 1)
+        entries.append(sum(from_linear[x] << width * i for i, x in enumerate(v)))
+    return entries
+
+
+def color_selectors(reader, count):
+    return selectors(reader, count, 3, [0, 2, 3, 1], 2)
+
+
+def alpha_selectors(reader, count):
+    entries = selectors(reader, count, 7, [0, 2, 3, 4, 5, 6, 7, 1], 3)
+    return [e >> 16 * k & 0xffff for e in entries for k in range(3)]
+
+
+# ------------------------------------------------------------------ the header
+
+PARTS = ['ce', 'cs', 'ae', 'as']      # colour endpoints, colour selectors, alpha endpoints, alpha selectors
+PALETTES = dict(zip(PARTS, [color_endpoints, color_selectors, alpha_endpoints, alpha_selectors]))
+FIELDS = [('header_size', 2), ('header_crc16', 2), ('data_size', 4), ('data_crc16', 2), ('width', 2), ('height', 2), ('levels', 1),
+          ('faces', 1), ('format', 1), ('flags', 2), ('reserved', 4), ('userdata0', 4), ('userdata1', 4)]
+
+
+def header_of(file):
+    at = 2
+
+    def take(width):
+        nonlocal at
+        at += width
+        return int.from_bytes(file[at - width:at], 'big')
+
+    header = {name: take(width) for name, width in FIELDS}
+    for part in PARTS:
+        header[part] = [take(3), take(3), take(2)]          # offset, size, count
+    header['tables_size'], header['tables_offset'] = take(2), take(3)
+    header['offsets'] = [take(4) if i < header['levels'] else 0 for i in range(13)]
+    return header
+
+
+def planes_of(format):
+    """The planes of a block in the order of its bytes: c colour, a alpha."""
+    return {0: 'c', 7: 'aa', 8: 'aa', 9: 'a'}.get(format, 'ac' if 2 <= format <= 6 else '')
+
+
+def within_limits(h):
+    planes = planes_of(h['format'])
+    return (1 <= h['width'] <= 4096 and 1 <= h['height'] <= 4096 and 1 <= h['levels'] <= 13 and h['faces'] in (1, 6) and planes != ''
+            and all(h[p][2] <= 8192 for p in PARTS) and all(h[p][2] >= 1 for p in PARTS if p[0] in planes))
+
+
+# ------------------------------------------------------------------ opening
+
+TABLES = ['chunk'] + PARTS
+
+
+def opening(file, lent):
+    """(refusal, bit, header, tables, buffers): the header and the tables None where refused. `lent`: the words of the four buffers, by part."""
+    def shut(number, bit=0, buffers=lent):
+        return number, bit, None, None, buffers
+
+    if len(file) < 74 or file[:2] != b'\x48\x78':
+        return shut(1)
+    h = header_of(file)
+    if not within_limits(h):
+        return shut(2)
+    if h['header_size'] < 70 + 4 * h['levels'] or h['header_size'] > len(file) or h['data_size'] > len(file) or len(file) > 0xffffffff:
+        return shut(3)
+    read = [p for p in PARTS if h[p[0] + 'e'][2] > 0]
+    for offset, size in [(h['tables_offset'], h['tables_size'])] + [h[p][:2] for p in read]:
+        if size == 0 or offset + size > len(file):
+            return shut(4)
+    if any(len(lent[p]) < h[p][2] * (3 if p == 'as' else 1) for p in read):
+        return shut(5)
+    try:
+        reader = Reader(file[h['tables_offset']:h['tables_offset'] + h['tables_size']])
+        tables = {name: table(reader) if name == 'chunk' or name in read else [] for name in TABLES}
+        buffers = dict(lent)
+        for p in read:
+            offset, size, count = h[p]
+            words = PALETTES[p](Reader(file[offset:offset + size]), count)
+            buffers[p] = words + list(lent[p][len(words):])
+    except Refusal as no:
+        return shut(no.number, no.bit, {p: [0] * len(lent[p]) for p in PARTS})
+    return 0, 0, h, tables, buffers
+
+
+# ------------------------------------------------------------------ bytes and hashes
+
+def palette_bytes(buffers):
+    """The four buffers, whole, as little-endian bytes: 4 a colour word, 2 an alpha word."""
+    return b''.join(w.to_bytes(4 if p[0] == 'c' else 2, 'little') for p in PARTS for w in buffers[p])
+
+
+def record_bytes(header, tables):
+    """The record's fields in their order, 4 little-endian bytes each; each table's count and its 8,192 lengths, a byte each. All zero where refused."""
+    if header is None:
+        return bytes(4 * (13 + 12 + 2 + 13) + 5 * (4 + 8192))
+    numbers = [header[name] for name, _ in FIELDS] + [x for p in PARTS for x in header[p]]
+    numbers += [header['tables_size'], header['tables_offset']] + header['offsets']
+    out = b''.join(n.to_bytes(4, 'little') for n in numbers)
+    return out + b''.join(len(tables[t]).to_bytes(4, 'little') + bytes(tables[t]) + bytes(8192 - len(tables[t])) for t in TABLES)
 
 def fnv(data):
     """FNV-1a, 64 bits, in 16 hexadecimal digits."""
