@@ -1,0 +1,8 @@
+pub mod Fitting
+pub mod Leaving
+pub mod Entering
+pub mod Zeroing
+pub mod Starting
+pub mod Summing
+pub mod Changing
+pub mod Packing

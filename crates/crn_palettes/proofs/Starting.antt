@@ -1,0 +1,46 @@
+-- From a palette's first bit to its entries: its tables are received, and what is left to be run ends as the palette does.
+use Prim.Native.Nat.{ℕ}
+use mathlib.Core.List.{List}
+use mathlib.Core.Path.{_≡_, refl, sym, ap}
+use Rattle.crn_format.specs.Reading.{Reading, next, Step, refused, Place, spot, start, run, fromBits}
+use Rattle.crn_format.specs.Tables.{table}
+use Rattle.crn_format.specs.Opening.{zeros}
+use Rattle.crn_symbol_codec.specs.Cursors.{place, Holds}
+use Rattle.crn_symbol_codec.specs.Decoders.{Decodes}
+use Rattle.crn_symbol_codec.specs.declared.Cursor.{Cursor}
+use Rattle.crn_static_huffman_data_model.specs.Parts.{SomeCode}
+use Rattle.crn_palettes.specs.Filling.{Fills, FillsFrom}
+use Rattle.crn_palettes.specs.Reaching.{Received}
+use Rattle.crn_palettes.specs.declared.Ended.{Ended}
+use Rattle.crn_palettes.specs.declared.reading.Reached.{Reached}
+use Rattle.crn_palettes.specs.declared.reading.Reached.the-variants.{To, Refused}
+use Rattle.crn_palettes.proofs.Leaving.{Left, left-next, left-stop, next-holds}
+use Rattle.crn_palettes.proofs.Entering.{fills-none}
+
+-- at the first bit all is left
+pub all-left : (seg : List ℕ) (m : Reading (List ℕ)) (c : Cursor) → place c ≡ 0 → Left seg m c (run (fromBits seg) m start)
+all-left seg m c e = record { blamed = 0; same = ap (λ (p : ℕ). run (fromBits seg) m (spot p 0)) e }
+
+-- what is left fills the buffer, so the palette does
+pub fills-left : {seg : List ℕ} {m rest : Reading (List ℕ)} {d : Cursor} {before after : List ℕ} {r : Ended} → FillsFrom seg d rest before after r → Left seg rest d (run (fromBits seg) m start)
+    → Fills seg m before after r
+fills-left {m = m} f l = f m (l .blamed) (sym (l .same))
+
+module _ {seg : List ℕ} {c : Cursor} {lookup sorted : List ℕ} {r : Reached} (x : Received seg c lookup sorted r) where
+  module _ {d : Cursor} (e : r ≡ To d) where
+    pub received-holds : Holds seg d
+    received-holds = next-holds (Holds seg) (x .reads 0 .holds) e
+
+    pub received-code : Decodes (x .lengths) lookup sorted
+    received-code = next-holds (λ _. Decodes (x .lengths) lookup sorted) (x .decodes) e
+
+    pub received-some : SomeCode lookup sorted
+    received-some = record { code = x .lengths; decodes = received-code }
+
+    pub received-left : (k : List ℕ → Reading (List ℕ)) {whole : Step Place (List ℕ)} → Left seg (next table k) c whole → Left seg (k (x .lengths)) d whole
+    received-left k l = left-next k l (x .reads) e
+
+  -- a table that is refused, where the buffer is then cleared
+  pub received-none : (k : List ℕ → Reading (List ℕ)) {m : Reading (List ℕ)} {before after : List ℕ} {n p : ℕ} → Left seg (next table k) c (run (fromBits seg) m start) → r ≡ Refused n p → after ≡ zeros before
+      → Fills seg m before after (record { refusal = n; at = p })
+  received-none k {before = before} l e z = fills-none before (left-stop k l (x .reads) e) refl z

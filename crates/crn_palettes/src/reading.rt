@@ -1,0 +1,37 @@
+// What every palette begins with: a code table, and its decoder table.
+ghost use Prim.Native.Nat.{_+_, _^_, _<_, _≤_};
+ghost use lib.ListN.{length};
+ghost use Rattle.crn_format.specs.Limits.{tooLong, maxSymbols};
+ghost use Rattle.crn_symbol_codec.specs.Cursors.{Holds};
+ghost use Rattle.crn_palettes.specs.Reaching.{Received};
+use crn_static_huffman_data_model::build;
+use crn_static_huffman_data_model::receive;
+use crn_symbol_codec::Cursor;
+
+// How many first bits of a code are looked up.
+const LOOKED_UP: u64 = 11;
+
+// The cursor after a part; or the refusal and the bit that it names.
+pub enum Reached {
+    To(Cursor),
+    Refused(u32, usize),
+}
+
+// A code table is received, and its decoder table built.
+pub fn receive_decoder(seg: &[u8], c: Cursor, lookup: &mut [u32], sorted: &mut [u16]) -> Reached
+    requires { ⌜ Holds (now seg) c ⌝ ∗ ⌜ length (now seg) < tooLong ⌝ ∗ ⌜ (32 + 2 ^ 11 ≤ length (now lookup)) × (maxSymbols ≤ length (now sorted)) ⌝ }
+    ensures { λ r. ⌜ Received (now (seg .entry)) c (now (lookup .exit)) (now (sorted .exit)) r ⌝ }
+{
+    let received = receive(seg, c);
+    let number = received.refusal;
+    let at = received.at;
+    let after = received.cursor;
+    let table = received.table;
+    if number != 0 {
+        return Reached::Refused(number, at);
+    }
+    let lengths = table.lengths;
+    let count = table.count as usize;
+    build(&lengths[..count], LOOKED_UP, lookup, sorted);
+    Reached::To(after)
+}
