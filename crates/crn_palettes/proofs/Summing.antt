@@ -52,10 +52,7 @@ alpha-sum t (suc (suc i)) h = absurd (omega arith)
 
 pub alpha-ended : (t : List ℕ) (i : ℕ) → 2 ≤ i → drop i (alphaSums t) ≡ []
 unfolding alphaSums
-alpha-ended t zero h = absurd (omega arith)
-alpha-ended t (suc zero) h = absurd (omega arith)
-alpha-ended t (suc (suc zero)) h = refl
-alpha-ended t (suc (suc (suc i))) h = refl
+alpha-ended t i h = drop-of-length-le (alphaSums t) {i = i} h
 
 -- ---- the sums of the colour endpoints
 

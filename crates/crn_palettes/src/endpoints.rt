@@ -18,6 +18,7 @@ use crate::Ended;
 use crate::clearing::clear16;
 use crate::clearing::clear32;
 use crate::reading::Reached;
+use crate::reading::wide;
 use crn_symbol_codec::Cursor;
 use crn_symbol_codec::Taken;
 use crn_symbol_codec::draw;
@@ -58,17 +59,11 @@ fn alpha_sums(
     Reached::To(at)
 }
 
-fn wide(x: u8) -> u16
-    ensures { λ r. ⌜ (r ≡ x) × (r < 256) ⌝ }
-{
-    x as u16
-}
-
 // The word of two sums.
 fn alpha_word(values: &[u8; 2]) -> u16
     ensures { λ r. ⌜ alphaWord (now (values .entry)) ≡ r ∷ [] ⌝ }
 {
-    wide(values[0]) + 256 * wide(values[1])
+    (wide(values[0]) + 256 * wide(values[1])) as u16
 }
 
 // The entries of an alpha endpoint palette.
@@ -131,17 +126,11 @@ fn draw_either<'a>(
     draw(lookup, sorted, seg, c)
 }
 
-fn long(x: u32) -> u64
-    ensures { λ r. ⌜ (r ≡ x) × (r < 4294967296) ⌝ }
-{
-    x as u64
-}
-
 // A sum with the delta added, modulo 64 or 32.
 fn added(six: bool, value: u8, delta: u32) -> u8
     ensures { λ r. ⌜ r ≡ (value + delta) % modulusOf six ⌝ }
 {
-    let sum = wide(value) as u64 + long(delta);
+    let sum = wide(value) as u64 + delta as u64;
     if six {
         return (sum % 64) as u8;
     }
@@ -176,23 +165,17 @@ fn color_sums<'a>(
     Reached::To(at)
 }
 
-fn part(x: u8) -> u32
-    ensures { λ r. ⌜ r ≡ x ⌝ }
-{
-    x as u32
-}
-
 // The word of six sums.
 fn color_word(v: &[u8; 6]) -> u32
     requires { ⌜ Small (now v) ⌝ }
     ensures { λ r. ⌜ colorWord (now (v .entry)) ≡ r ∷ [] ⌝ }
 {
-    part(v[2])
-        + 32 * part(v[1])
-        + 2048 * part(v[0])
-        + 65536 * part(v[5])
-        + 2097152 * part(v[4])
-        + 134217728 * part(v[3])
+    wide(v[2])
+        + 32 * wide(v[1])
+        + 2048 * wide(v[0])
+        + 65536 * wide(v[5])
+        + 2097152 * wide(v[4])
+        + 134217728 * wide(v[3])
 }
 
 // The entries of a colour endpoint palette.

@@ -12,13 +12,18 @@ mod endpoints;
 mod reading;
 mod selectors;
 
+pub use clearing::clear16;
+pub use clearing::clear32;
+
 // How reading a palette ended: 0 and 0; or the refusal and the bit that it names.
 pub struct Ended {
     pub refusal: u32,
     pub at: usize,
 }
 
-// A table for the sums of five bits, and one for those of six.
+// Each palette has its decoder tables in arrays of its own: room for 13 first bits looked up, and for 8,192 symbols.
+
+// Colour endpoints: six running sums an entry, by a table for five bits and one for six.
 pub fn color_endpoints(seg: &[u8], count: usize, out: &mut [u32]) -> Ended
     requires { ⌜ (length (now seg) < tooLong) × (count ≤ maxEntries) × (count ≤ length (now out)) ⌝ }
     ensures { λ r. ⌜ Fills (now (seg .entry)) (colorEndpoints count) (now (out .entry)) (now (out .exit)) r ⌝ }
@@ -44,6 +49,7 @@ pub fn color_endpoints(seg: &[u8], count: usize, out: &mut [u32]) -> Ended
     }
 }
 
+// Alpha endpoints: two running bytes an entry.
 pub fn alpha_endpoints(seg: &[u8], count: usize, out: &mut [u16]) -> Ended
     requires { ⌜ (length (now seg) < tooLong) × (count ≤ maxEntries) × (count ≤ length (now out)) ⌝ }
     ensures { λ r. ⌜ Fills (now (seg .entry)) (alphaEndpoints count) (now (out .entry)) (now (out .exit)) r ⌝ }
@@ -59,6 +65,7 @@ pub fn alpha_endpoints(seg: &[u8], count: usize, out: &mut [u16]) -> Ended
     }
 }
 
+// Colour selectors: sixteen running values of two bits an entry.
 pub fn color_selectors(seg: &[u8], count: usize, out: &mut [u32]) -> Ended
     requires { ⌜ (length (now seg) < tooLong) × (count ≤ maxEntries) × (count ≤ length (now out)) ⌝ }
     ensures { λ r. ⌜ Fills (now (seg .entry)) (colorSelectors count) (now (out .entry)) (now (out .exit)) r ⌝ }
@@ -74,7 +81,7 @@ pub fn color_selectors(seg: &[u8], count: usize, out: &mut [u32]) -> Ended
     }
 }
 
-// Three words an entry.
+// Alpha selectors: sixteen running values of three bits, and so three words, an entry.
 pub fn alpha_selectors(seg: &[u8], count: usize, out: &mut [u16]) -> Ended
     requires { ⌜ (length (now seg) < tooLong) × (count ≤ maxEntries) × (3 * count ≤ length (now out)) ⌝ }
     ensures { λ r. ⌜ Fills (now (seg .entry)) (alphaSelectors count) (now (out .entry)) (now (out .exit)) r ⌝ }

@@ -1,4 +1,5 @@
-// What every palette begins with: a code table, and its decoder table.
+// The parts that every palette is read by: its code tables, and a running value.
+ghost use mathlib.Core.Path.{_≡_};
 ghost use Prim.Native.Nat.{_+_, _^_, _<_, _≤_};
 ghost use lib.ListN.{length};
 ghost use Rattle.crn_format.specs.Limits.{tooLong, maxSymbols};
@@ -8,13 +9,20 @@ use crn_static_huffman_data_model::build;
 use crn_static_huffman_data_model::receive;
 use crn_symbol_codec::Cursor;
 
-// How many first bits of a code are looked up.
+// How many first bits of a code are looked up: 11, as `receive_decoder` requires room for.
 const LOOKED_UP: u64 = 11;
 
 // The cursor after a part; or the refusal and the bit that it names.
 pub enum Reached {
     To(Cursor),
     Refused(u32, usize),
+}
+
+// A byte, as a number to count with.
+pub fn wide(x: u8) -> u32
+    ensures { λ r. ⌜ (r ≡ x) × (r < 256) ⌝ }
+{
+    x as u32
 }
 
 // A code table is received, and its decoder table built.

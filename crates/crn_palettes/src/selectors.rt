@@ -16,6 +16,7 @@ use crate::Ended;
 use crate::clearing::clear16;
 use crate::clearing::clear32;
 use crate::reading::Reached;
+use crate::reading::wide;
 use crn_consts::Deltas;
 use crn_symbol_codec::Cursor;
 use crn_symbol_codec::Taken;
@@ -47,12 +48,6 @@ fn deltas(alpha: bool, symbol: u32) -> Deltas
         first: symbol % 7 + 1,
         second: symbol / 7 + 1,
     }
-}
-
-fn wide(x: u8) -> u32
-    ensures { λ r. ⌜ (r ≡ x) × (r < 256) ⌝ }
-{
-    x as u32
 }
 
 // A value changed by a delta.

@@ -1,9 +1,9 @@
 -- The word of an alpha endpoint.
 use Prim.Native.Nat.{_+_, _*_}
-use mathlib.Core.Path.{sym, ap₂}
 use mathlib.Core.List.{[], _∷_}
-use borrow.Author.Needs.{needs}
+use mathlib.Core.Path.{sym, ap₂}
 use Rattle.crn_format.specs.Palettes.{alphaWord}
+use borrow.Author.Needs.{needs}
 use Rattle.crn_palettes.proofs.endpoints.alpha_word.Statement.{statement}
 use Rattle.crn_palettes.proofs.endpoints.alpha_word.Tie as tie
 
@@ -25,6 +25,9 @@ mul-result c = search needs
 add-result : tie.Need-add-result
 add-result c = search needs
 
+cast-result : tie.Need-cast-result
+cast-result c = search needs
+
 returns : tie.Need-returns
 unfolding alphaWord
 returns c = ap₂ (λ lo hi. (lo + 256 * hi) ∷ []) (sym (c .before .before .wide .ensures .0)) (sym (c .wide2 .ensures .0))
@@ -39,4 +42,5 @@ alpha-word-spec =
     wide-requires-2
     mul-result
     add-result
+    cast-result
     returns)

@@ -1,0 +1,3 @@
+pub mod SentTables
+pub mod Loading
+pub mod Opens
