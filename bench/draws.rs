@@ -1,17 +1,5 @@
 // Draws of the proved crates and of the Rust's symbol_codec, in one process, on the same codes and bits. See bench/README.md.
-#[path = "shared/docs/src/src"]
-mod texture2ddecoder {
-    pub(crate) mod crnlib;
-    pub(crate) mod crunch;
-    pub(crate) mod macros;
-}
-pub(crate) use texture2ddecoder::{crnlib, crunch, macros};
-mod bcn {
-    macro_rules! none {
-        ($($n:ident)*) => { $(pub fn $n(_: &[u8], _: usize, _: usize, _: &mut [u32]) -> Result<(), &'static str> { Ok(()) })* };
-    }
-    none!(decode_bc1 decode_bc3 decode_bc4 decode_bc5);
-}
+include!("the_rust.rs");
 use std::time::Instant;
 
 extern "C" {

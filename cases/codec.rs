@@ -2,19 +2,7 @@
 // Input: as crn_tables reads it. Output: for each case a line with an entry for each operation: `n VALUE`, `t COUNT HASH`, `d NUMBER HASH`,
 // or what ended the case: `refused`, `panicked`. Each segment is followed by bytes that do not belong to it: the Rust looks past a segment's end
 // and panics where the file ends there too.
-#[path = "shared/docs/src/src"]
-mod texture2ddecoder {
-    pub(crate) mod crnlib;
-    pub(crate) mod crunch;
-    pub(crate) mod macros;
-}
-pub(crate) use texture2ddecoder::{crnlib, crunch, macros};
-mod bcn {
-    macro_rules! none {
-        ($($n:ident)*) => { $(pub fn $n(_: &[u8], _: usize, _: usize, _: &mut [u32]) -> Result<(), &'static str> { Ok(()) })* };
-    }
-    none!(decode_bc1 decode_bc3 decode_bc4 decode_bc5);
-}
+include!("the_rust.rs");
 use crunch::crn_static_huffman_data_model::StaticHuffmanDataModel;
 use crunch::crn_symbol_codec::symbol_codec;
 use std::io::Read;

@@ -170,7 +170,8 @@ def main():
 
     with tempfile.TemporaryDirectory() as room:
         os.symlink(shared, os.path.join(room, 'shared'))
-        shutil.copy(os.path.join(here, 'codec.rs'), room)
+        for source in ('codec.rs', 'the_rust.rs'):
+            shutil.copy(os.path.join(here, source), room)
         subprocess.run(['rustc', '--edition', '2021', '-O', '--cap-lints', 'allow', 'codec.rs'], cwd=room, check=True)
         rust = subprocess.run([os.path.join(room, 'codec')], input=stdin, stdout=subprocess.PIPE, check=True).stdout.decode().splitlines()
 
