@@ -23,9 +23,9 @@ def generator(shared):
 
 
 def exact(file, fill=0, more=0):
-    """Lent buffers of just the header's counts, or `more` words more; capped where a damaged count is wild."""
+    """Lent buffers of just the header's counts, or `more` words more, and not longer than crn_cases takes them."""
     h = reference.header_of(file.ljust(80, b'\0'))
-    return {p: [fill] * (min(h[p][2], 8192) * (3 if p == 'as' else 1) + more) for p in reference.PARTS}
+    return {p: [fill] * min(h[p][2] * each + more, 8192 * each) for p, each in zip(reference.PARTS, [1, 1, 1, 3])}
 
 
 def put(file, at, value, width):
