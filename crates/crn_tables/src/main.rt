@@ -44,20 +44,11 @@ fn last_hash(h: u64) {
     text(b"\n");
 }
 
-// FNV-1a with one byte more: (h xor b) times 2^40 + 435, modulo 2^64.
-fn hashed(h: u64, b: u64) -> u64 {
-    let x = h ^ b;
-    let low = x % 4294967296 * 435;
-    let high = x / 4294967296 % 4294967296 * 435 % 4294967296 * 4294967296;
-    let far = x % 16777216 * 1099511627776;
-    std::num::wrapping_add_u64(std::num::wrapping_add_u64(low, high), far)
-}
-
 fn hash_of(bytes: &[u8]) -> u64 {
-    let mut h: u64 = 14695981039346656037;
+    let mut h = fnv::OFFSET;
     let mut i: usize = 0;
     while i < bytes.len() {
-        h = hashed(h, crn_utils::byte(bytes, i) as u64);
+        h = fnv::step(h, crn_utils::byte(bytes, i));
         i += 1;
     }
     h
@@ -163,13 +154,13 @@ fn many(lengths: &[u8], lookup: &[u32], sorted: &[u16], seg: &[u8], from: Cursor
     ensures { λ r. ⌜ Holds (now (seg .entry)) (r .cursor) ⌝ }
 {
     let mut c = from;
-    let mut h: u64 = 14695981039346656037;
+    let mut h = fnv::OFFSET;
     let mut k: u32 = 0;
     while k < n {
         let t = crn_symbol_codec::draw(lookup, sorted, seg, c);
         match t {
             Taken::Value(s, d) => {
-                h = hashed(hashed(h, (s % 256) as u64), (s / 256 % 256) as u64);
+                h = fnv::step(fnv::step(h, s % 256), s / 256 % 256);
                 c = d;
             }
             Taken::Failed(refusal) => {

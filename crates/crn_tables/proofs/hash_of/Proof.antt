@@ -17,11 +17,8 @@ loop-holds c = search needs
 byte-requires : tie.Need-byte-requires Inv-loop μ-loop
 byte-requires c κs = search needs
 
-cast-hashed : tie.Need-cast-hashed Inv-loop μ-loop
-cast-hashed c = search needs
-
-hashed-requires : tie.Need-hashed-requires Inv-loop μ-loop
-hashed-requires c κs = search needs
+step-requires : tie.Need-step-requires Inv-loop μ-loop
+step-requires c κs = search needs
 
 add-i : tie.Need-add-i Inv-loop μ-loop
 add-i c = search needs
@@ -43,8 +40,7 @@ hash-of-spec =
     μ-loop
     loop-holds
     byte-requires
-    cast-hashed
-    hashed-requires
+    step-requires
     add-i
     loop-less
     loop-again

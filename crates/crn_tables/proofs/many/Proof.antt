@@ -22,23 +22,17 @@ draw-requires c κs = (c .before .loop .inv .0, c .before .before .before .befor
 enum-known-t : tie.Need-enum-known-t Inv-loop μ-loop
 enum-known-t c = search needs
 
-cast-hashed : tie.Need-cast-hashed Inv-loop μ-loop
-cast-hashed c = search needs
+step-requires : tie.Need-step-requires Inv-loop μ-loop
+step-requires c κs = search needs
 
-hashed-requires : tie.Need-hashed-requires Inv-loop μ-loop
-hashed-requires c κs = search needs
-
-cast-hashed-2 : tie.Need-cast-hashed-2 Inv-loop μ-loop
-cast-hashed-2 c = search needs
-
-hashed-requires-2 : tie.Need-hashed-requires-2 Inv-loop μ-loop
-hashed-requires-2 c κs = search needs
+step-requires-2 : tie.Need-step-requires-2 Inv-loop μ-loop
+step-requires-2 c κs = search needs
 
 enum-known-t-2 : tie.Need-enum-known-t-2 Inv-loop μ-loop
 enum-known-t-2 c = search needs
 
-cast-t21 : tie.Need-cast-t21 Inv-loop μ-loop
-cast-t21 c = search needs
+cast-t19 : tie.Need-cast-t19 Inv-loop μ-loop
+cast-t19 c = search needs
 
 returns : tie.Need-returns Inv-loop μ-loop
 returns c = search needs
@@ -52,8 +46,8 @@ loop-less c = search needs
 loop-again : tie.Need-loop-again Inv-loop μ-loop
 loop-again c = (taken-holds (c .before .before .before .before .before .draw .ensures _ (c .before .before .before .before .before .before .before .before .before .before .before .before .pre .1)) (c .before .before .before .t .given .1), omega arith)
 
-cast-t22 : tie.Need-cast-t22 Inv-loop μ-loop
-cast-t22 c = search needs
+cast-t20 : tie.Need-cast-t20 Inv-loop μ-loop
+cast-t20 c = search needs
 
 returns-2 : tie.Need-returns-2 Inv-loop μ-loop
 returns-2 c = search needs
@@ -67,15 +61,13 @@ many-spec =
     loop-holds
     draw-requires
     enum-known-t
-    cast-hashed
-    hashed-requires
-    cast-hashed-2
-    hashed-requires-2
+    step-requires
+    step-requires-2
     enum-known-t-2
-    cast-t21
+    cast-t19
     returns
     add-k
     loop-less
     loop-again
-    cast-t22
+    cast-t20
     returns-2)

@@ -1,0 +1,69 @@
+-- `with_buffers`: each part that is lent is as long as asked.
+use mathlib.Core.Path.{_≡_, sym}
+use native.Mathlib.Omega.{arith}
+use lib.ListN.{length}
+use lib.Seq.{length-take-le}
+use borrow.Author.Needs.{needs}
+use Rattle.crn_cases.proofs.with_buffers.Statement.{statement}
+use Rattle.crn_cases.proofs.with_buffers.Tie as tie
+
+color-space-requires : tie.Need-color-space-requires
+color-space-requires c κs = search needs
+
+color-space-requires-2 : tie.Need-color-space-requires-2
+color-space-requires-2 c κs = search needs
+
+alpha-space-requires : tie.Need-alpha-space-requires
+alpha-space-requires c κs = search needs
+
+selector-space-requires : tie.Need-selector-space-requires
+selector-space-requires c κs = search needs
+
+array-borrow-prefix-color-endpoints : tie.Need-array-borrow-prefix-color-endpoints
+array-borrow-prefix-color-endpoints c = search needs
+
+slice-aggregate-open-filled : tie.Need-slice-aggregate-open-filled
+slice-aggregate-open-filled c = sym (length-take-le (c .before .before .before .before .before .before .args .a) (c .before .before .before .before .color-space .result) (omega (arith, c .before .before .before .before .color-space .ensures, c .before .before .before .before .before .before .pre .0)))
+
+array-borrow-prefix-color-selectors : tie.Need-array-borrow-prefix-color-selectors
+array-borrow-prefix-color-selectors c = search needs
+
+slice-aggregate-open-filled-2 : tie.Need-slice-aggregate-open-filled-2
+slice-aggregate-open-filled-2 c = sym (length-take-le (c .before .before .before .before .before .before .before .args .b) (c .before .before .before .before .color-space2 .result) (omega (arith, c .before .before .before .before .color-space2 .ensures, c .before .before .before .before .before .before .before .pre .1)))
+
+array-borrow-prefix-alpha-endpoints : tie.Need-array-borrow-prefix-alpha-endpoints
+array-borrow-prefix-alpha-endpoints c = search needs
+
+slice-aggregate-open-filled-3 : tie.Need-slice-aggregate-open-filled-3
+slice-aggregate-open-filled-3 c = sym (length-take-le (c .before .before .before .before .before .before .before .before .args .c) (c .before .before .before .before .alpha-space .result) (omega (arith, c .before .before .before .before .alpha-space .ensures, c .before .before .before .before .before .before .before .before .pre .2)))
+
+array-borrow-prefix-alpha-selectors : tie.Need-array-borrow-prefix-alpha-selectors
+array-borrow-prefix-alpha-selectors c = search needs
+
+slice-aggregate-open-filled-4 : tie.Need-slice-aggregate-open-filled-4
+slice-aggregate-open-filled-4 c = sym (length-take-le (c .before .before .before .before .before .before .before .before .before .args .d) (c .before .before .before .before .selector-space .result) (omega (arith, c .before .before .before .before .selector-space .ensures, c .before .before .before .before .before .before .before .before .before .pre .3)))
+
+open-filled-requires : tie.Need-open-filled-requires
+open-filled-requires c κs = search needs
+
+returns : tie.Need-returns
+returns c = search needs
+
+pub with-buffers-spec : {M : Type 1} → statement M
+with-buffers-spec =
+    tie.close
+    (tie.spec
+    color-space-requires
+    color-space-requires-2
+    alpha-space-requires
+    selector-space-requires
+    array-borrow-prefix-color-endpoints
+    slice-aggregate-open-filled
+    array-borrow-prefix-color-selectors
+    slice-aggregate-open-filled-2
+    array-borrow-prefix-alpha-endpoints
+    slice-aggregate-open-filled-3
+    array-borrow-prefix-alpha-selectors
+    slice-aggregate-open-filled-4
+    open-filled-requires
+    returns)

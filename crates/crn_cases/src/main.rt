@@ -1,0 +1,413 @@
+// Opens files, case by case from standard input, and writes a line for each call. docs/CASES.md has the format.
+ghost use mathlib.Core.Path.{_≡_};
+ghost use Prim.Native.Nat.{_+_, _*_, _<_, _≤_};
+ghost use lib.ListN.{length};
+use crn_format::Header;
+use crn_format::Part;
+use crn_format::Record;
+use crn_format::Table;
+use crunch::Opened;
+use libc::STDIN_FILENO;
+use libc::STDOUT_FILENO;
+
+// ---- buffers, each with its length in the contract
+
+fn file_space() -> [u8; 262144]
+    ensures { λ r. ⌜ 262144 ≡ length r ⌝ }
+{
+    [0; 262144]
+}
+
+fn color_space() -> [u32; 8192]
+    ensures { λ r. ⌜ 8192 ≡ length r ⌝ }
+{
+    [0; 8192]
+}
+
+fn alpha_space() -> [u16; 8192]
+    ensures { λ r. ⌜ 8192 ≡ length r ⌝ }
+{
+    [0; 8192]
+}
+
+fn selector_space() -> [u16; 24576]
+    ensures { λ r. ⌜ 24576 ≡ length r ⌝ }
+{
+    [0; 24576]
+}
+
+// ---- input
+
+// Whether standard input has enough to fill the buffer.
+fn take(buffer: &mut [u8]) -> bool {
+    let wanted = buffer.len();
+    io::read_full(STDIN_FILENO, buffer) == wanted
+}
+
+fn fill32(words: &mut [u32], value: u32) {
+    let mut i: usize = 0;
+    while i < words.len() {
+        words[i] = value;
+        i += 1;
+    }
+}
+
+fn fill16(words: &mut [u16], value: u16) {
+    let mut i: usize = 0;
+    while i < words.len() {
+        words[i] = value;
+        i += 1;
+    }
+}
+
+// ---- hashes
+
+// Four bytes more, the lowest first.
+fn hashed32(h: u64, v: u32) -> u64 {
+    let mut k = fnv::step(h, v % 256);
+    k = fnv::step(k, v / 256 % 256);
+    k = fnv::step(k, v / 65536 % 256);
+    fnv::step(k, v / 16777216)
+}
+
+fn hash_of32(words: &[u32], h: u64) -> u64 {
+    let mut k = h;
+    let mut i: usize = 0;
+    while i < words.len() {
+        k = hashed32(k, words[i]);
+        i += 1;
+    }
+    k
+}
+
+fn hash_of16(words: &[u16], h: u64) -> u64 {
+    let mut k = h;
+    let mut i: usize = 0;
+    while i < words.len() {
+        let v = words[i] as u32;
+        k = fnv::step(fnv::step(k, v % 256), v / 256);
+        i += 1;
+    }
+    k
+}
+
+fn hash_of_part(p: Part, h: u64) -> u64 {
+    hashed32(hashed32(hashed32(h, p.offset), p.size), p.count)
+}
+
+fn hash_of_header(r: Header, h: u64) -> u64 {
+    let mut k = hashed32(h, r.header_size);
+    k = hashed32(k, r.header_crc16);
+    k = hashed32(k, r.data_size);
+    k = hashed32(k, r.data_crc16);
+    k = hashed32(k, r.width);
+    k = hashed32(k, r.height);
+    k = hashed32(k, r.levels);
+    k = hashed32(k, r.faces);
+    k = hashed32(k, r.format);
+    k = hashed32(k, r.flags);
+    k = hashed32(k, r.reserved);
+    k = hashed32(k, r.userdata0);
+    k = hashed32(k, r.userdata1);
+    hash_of_parts(r, k)
+}
+
+fn hash_of_parts(r: Header, h: u64) -> u64 {
+    let color_endpoints = r.color_endpoints;
+    let color_selectors = r.color_selectors;
+    let alpha_endpoints = r.alpha_endpoints;
+    let alpha_selectors = r.alpha_selectors;
+    let offsets = r.level_offsets;
+    let mut k = hash_of_part(color_endpoints, h);
+    k = hash_of_part(color_selectors, k);
+    k = hash_of_part(alpha_endpoints, k);
+    k = hash_of_part(alpha_selectors, k);
+    k = hashed32(k, r.tables_size);
+    k = hashed32(k, r.tables_offset);
+    let mut i: usize = 0;
+    while i < 13 {
+        k = hashed32(k, offsets[i]);
+        i += 1;
+    }
+    k
+}
+
+fn hash_of_table(t: Table, h: u64) -> u64 {
+    let lengths = t.lengths;
+    let mut k = hashed32(h, t.count);
+    let mut i: usize = 0;
+    while i < 8192 {
+        k = fnv::step(k, lengths[i] as u32);
+        i += 1;
+    }
+    k
+}
+
+fn hash_of_record(r: Record) -> u64 {
+    let header = r.header;
+    let tables = r.tables;
+    let chunk = tables.chunk_encoding;
+    let color_endpoint = tables.color_endpoint_delta;
+    let color_selector = tables.color_selector_delta;
+    let alpha_endpoint = tables.alpha_endpoint_delta;
+    let alpha_selector = tables.alpha_selector_delta;
+    let mut k = hash_of_header(header, fnv::OFFSET);
+    k = hash_of_table(chunk, k);
+    k = hash_of_table(color_endpoint, k);
+    k = hash_of_table(color_selector, k);
+    k = hash_of_table(alpha_endpoint, k);
+    hash_of_table(alpha_selector, k)
+}
+
+// ---- lines
+
+fn text(t: &[u8]) {
+    io::write_all(STDOUT_FILENO, t);
+}
+
+fn hash_after_space(h: u64) {
+    text(b" ");
+    io::print_hex(STDOUT_FILENO, h, 16);
+}
+
+// What opening answered, what the four buffers hold, and the record.
+fn line(
+    o: Opened,
+    color_endpoints: &[u32],
+    color_selectors: &[u32],
+    alpha_endpoints: &[u16],
+    alpha_selectors: &[u16],
+) {
+    let r = o.file;
+    let mut k = hash_of32(color_endpoints, fnv::OFFSET);
+    k = hash_of32(color_selectors, k);
+    k = hash_of16(alpha_endpoints, k);
+    k = hash_of16(alpha_selectors, k);
+    text(b"open ");
+    io::print_decimal(STDOUT_FILENO, o.refusal as u64);
+    hash_after_space(k);
+    hash_after_space(hash_of_record(r));
+    text(b"\n");
+}
+
+// ---- cases
+
+fn fill_all(
+    color_endpoints: &mut [u32],
+    color_selectors: &mut [u32],
+    alpha_endpoints: &mut [u16],
+    alpha_selectors: &mut [u16],
+    value: u32,
+) {
+    let half = (value % 256) as u16;
+    fill32(color_endpoints, value);
+    fill32(color_selectors, value);
+    fill16(alpha_endpoints, half);
+    fill16(alpha_selectors, half);
+}
+
+fn open_and_say(
+    file: &[u8],
+    color_endpoints: &mut [u32],
+    color_selectors: &mut [u32],
+    alpha_endpoints: &mut [u16],
+    alpha_selectors: &mut [u16],
+) {
+    let o = crunch::open(
+        file,
+        color_endpoints,
+        color_selectors,
+        alpha_endpoints,
+        alpha_selectors,
+    );
+    line(
+        o,
+        color_endpoints,
+        color_selectors,
+        alpha_endpoints,
+        alpha_selectors,
+    );
+}
+
+// A file opened with buffers of just the lent lengths, each word filled first.
+fn open_filled(
+    file: &[u8],
+    color_endpoints: &mut [u32],
+    color_selectors: &mut [u32],
+    alpha_endpoints: &mut [u16],
+    alpha_selectors: &mut [u16],
+    value: u32,
+) {
+    fill_all(
+        color_endpoints,
+        color_selectors,
+        alpha_endpoints,
+        alpha_selectors,
+        value,
+    );
+    open_and_say(
+        file,
+        color_endpoints,
+        color_selectors,
+        alpha_endpoints,
+        alpha_selectors,
+    );
+}
+
+// How many words of each palette are lent, and the fill byte; or 1 or 2, as for a case.
+struct Lent {
+    ended: u32,
+    color_endpoints: usize,
+    color_selectors: usize,
+    alpha_endpoints: usize,
+    alpha_selectors: usize,
+    value: u32,
+}
+
+fn take_lent() -> Lent {
+    let mut bytes = [0u8; 17];
+    let whole = take(&mut bytes);
+    let a = crn_utils::little32(&bytes, 0) as usize;
+    let b = crn_utils::little32(&bytes, 4) as usize;
+    let c = crn_utils::little32(&bytes, 8) as usize;
+    let d = crn_utils::little32(&bytes, 12) as usize;
+    Lent {
+        ended: if whole { 0 } else { 1 },
+        color_endpoints: a,
+        color_selectors: b,
+        alpha_endpoints: c,
+        alpha_selectors: d,
+        value: crn_utils::byte(&bytes, 16),
+    }
+}
+
+fn with_buffers(file: &[u8], a: usize, b: usize, c: usize, d: usize, value: u32)
+    requires { ⌜ (a ≤ 8192) × (b ≤ 8192) × (c ≤ 8192) × (d ≤ 24576) ⌝ }
+{
+    let mut color_endpoints = color_space();
+    let mut color_selectors = color_space();
+    let mut alpha_endpoints = alpha_space();
+    let mut alpha_selectors = selector_space();
+    open_filled(
+        file,
+        &mut color_endpoints[..a],
+        &mut color_selectors[..b],
+        &mut alpha_endpoints[..c],
+        &mut alpha_selectors[..d],
+        value,
+    );
+}
+
+// 2 where more is lent than there is room for.
+fn with_lent(file: &[u8], l: Lent) -> u32 {
+    let a = l.color_endpoints;
+    let b = l.color_selectors;
+    let c = l.alpha_endpoints;
+    let d = l.alpha_selectors;
+    if 8192 < a {
+        return 2;
+    }
+    if 8192 < b {
+        return 2;
+    }
+    if 8192 < c {
+        return 2;
+    }
+    if 24576 < d {
+        return 2;
+    }
+    with_buffers(file, a, b, c, d, l.value);
+    0
+}
+
+// Whether standard input has so many bytes for the start of the buffer.
+fn take_first(buffer: &mut [u8], n: usize) -> bool
+    requires { ⌜ n ≤ length (now buffer) ⌝ }
+{
+    take(&mut buffer[..n])
+}
+
+// So many bytes of input that nothing is done with yet.
+fn pass(n: usize) -> bool
+    requires { ⌜ n ≤ 8192 ⌝ }
+{
+    let mut space = byte_space();
+    take(&mut space[..n])
+}
+
+fn byte_space() -> [u8; 8192]
+    ensures { λ r. ⌜ 8192 ≡ length r ⌝ }
+{
+    [0; 8192]
+}
+
+// A number of record edits, of 9 bytes each, or of level calls, of 32. They have a say once levels are unpacked, and are passed over until then.
+fn pass_list(calls: bool) -> bool {
+    let mut head = [0u8; 1];
+    if !take(&mut head) {
+        return false;
+    }
+    let n = crn_utils::byte(&head, 0) as usize;
+    if calls { pass(32 * n) } else { pass(9 * n) }
+}
+
+// The next case: 0 where it was done, 1 where the input ends too early, 2 where something is too large.
+fn one() -> u32 {
+    let mut head = [0u8; 4];
+    if !take(&mut head) {
+        return 1;
+    }
+    let size = crn_utils::little32(&head, 0) as usize;
+    if 262144 < size {
+        return 2;
+    }
+    let mut file = file_space();
+    if !take_first(&mut file, size) {
+        return 1;
+    }
+    let l = take_lent();
+    if l.ended != 0 {
+        return 1;
+    }
+    let ended = with_lent(&file[..size], l);
+    if ended != 0 {
+        return ended;
+    }
+    if !pass_list(false) {
+        return 1;
+    }
+    if !pass_list(true) {
+        return 1;
+    }
+    0
+}
+
+fn cases(n: u32) {
+    let mut k: u32 = 0;
+    while k < n {
+        let ended = one();
+        if ended == 1 {
+            text(b"short input\n");
+            return;
+        }
+        if ended == 2 {
+            text(b"too large\n");
+            return;
+        }
+        k += 1;
+    }
+}
+
+fn main() {
+    let mut head = [0u8; 8];
+    if !take(&mut head) {
+        text(b"short input\n");
+        return;
+    }
+    // `CASE`
+    if crn_utils::little32(&head, 0) != 1163084099 {
+        text(b"no cases\n");
+        return;
+    }
+    cases(crn_utils::little32(&head, 4));
+}
