@@ -12,11 +12,12 @@ use Rattle.crn_format.specs.Reading.{Reading, Step, got, refused, Spendi
 use Rattle.crn_format.specs.Header.{Kind, DXT1, DXT5, DXT5A, DXN, unknown, kindOf, hasColor, hasAlpha, blockBytes, withinLimits}
 use Rattle.crn_format.specs.Opening.{Palettes, segment}
 use Rattle.crn_format.specs.Level.{Plane, Chunk, level}
-use Rattle.crn_format.specs.Grid.{Grid, Shade, color, alpha, pixels, blocks, chunkCount, insides, blockAt, painted, blank, cutouts}
+use Rattle.crn_format.specs.Grid.{Shade, color, alpha, pixels, blocks, chunkCount, insides, blockAt, painted, blank, cutouts}
 use Rattle.crn_format.specs.declared.Table.{Table}
 use Rattle.crn_format.specs.declared.Tables.{Tables}
 use Rattle.crn_format.specs.declared.Header.{Header}
 use Rattle.crn_format.specs.declared.Record.{Record}
+use Rattle.crn_format.specs.declared.Grid.{Grid}
 
 -- ---- the checks before the first draw, each with its refusal
 

@@ -56,3 +56,13 @@ pub struct Record {
     pub header: Header,
     pub tables: Tables,
 }
+
+// The blocks of a level: faces of rows of columns, each so many bytes; a row is a pitch from the next, a face a distance.
+pub struct Grid {
+    pub faces: usize,
+    pub columns: usize,
+    pub rows: usize,
+    pub bytes: usize,
+    pub pitch: usize,
+    pub distance: usize,
+}
