@@ -1,13 +1,13 @@
 // The limits (refusal 2) and the sizes (refusal 3) of a header.
-use crate::conditions::between;
-use crate::conditions::implies;
-use crate::formats::has_alpha;
-use crate::formats::has_color;
-use crate::formats::is_known;
-use crate::limits::MAX_ENTRIES;
-use crate::limits::MAX_LEVELS;
-use crate::limits::MAX_SIDE;
-use crate::limits::TOO_LONG;
+use crn_formats::between;
+use crn_formats::implies;
+use crn_formats::has_alpha;
+use crn_formats::has_color;
+use crn_formats::is_known;
+use crn_formats::MAX_ENTRIES;
+use crn_formats::MAX_LEVELS;
+use crn_formats::MAX_SIDE;
+use crn_formats::TOO_LONG;
 use crn_format::Header;
 use crn_format::Part;
 ghost use mathlib.Core.Path.{_≡_};

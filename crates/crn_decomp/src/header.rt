@@ -1,6 +1,6 @@
 // The signature and the fields of a header (document 01, Header). A byte past the file's end counts as 0.
-use crate::limits::MAX_LEVELS;
-use crate::limits::MIN_SIZE;
+use crn_formats::MAX_LEVELS;
+use crn_formats::MIN_SIZE;
 use crn_format::Header;
 use crn_format::Part;
 use crn_utils::big16;

@@ -1,10 +1,10 @@
 // The segments that opening reads (refusal 4), and the lent palettes that it fills (refusal 5).
-use crate::conditions::implies;
+use crn_formats::implies;
 use crn_format::Header;
 use crn_format::Part;
 ghost use mathlib.Core.Path.{_≡_};
 ghost use Rattle.crn_format.specs.Opening.{ofPlane, stands, partStands, segmentsStand, roomFor};
-ghost use Rattle.crn_decomp.specs.Lent.{lentOf};
+ghost use Rattle.crn_formats.specs.Lent.{lentOf};
 
 // What has to hold of both palettes of a plane, where the plane is present.
 fn of_plane(endpoints: Part, first: bool, second: bool) -> bool

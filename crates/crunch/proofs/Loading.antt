@@ -12,7 +12,7 @@ use Rattle.crn_format.specs.Opening.{Palettes, Lengths, tablesOf, Opening, open
 use Rattle.crn_format.specs.declared.Part.{Part}
 use Rattle.crn_format.specs.declared.Header.{Header}
 use Rattle.crn_format.specs.declared.Tables.{Tables}
-use Rattle.crn_decomp.specs.Lent.{lentOf}
+use Rattle.crn_formats.specs.Lent.{lentOf}
 use Rattle.crn_palettes.specs.Filling.{answered, held, Fills}
 use Rattle.crn_palettes.specs.declared.Ended.{Ended}
 use Rattle.crunch.specs.SentTables.{sentOf}

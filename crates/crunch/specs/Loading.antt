@@ -13,7 +13,7 @@ use Rattle.crn_format.specs.Palettes.{colorEndpoints, colorSelectors, alphaEndp
 use Rattle.crn_format.specs.Opening.{Palettes, Opening, shut, present, segmentsStand, roomFor, zeroed, paletteIn}
 use Rattle.crn_format.specs.declared.Part.{Part}
 use Rattle.crn_format.specs.declared.Header.{Header}
-use Rattle.crn_decomp.specs.Lent.{lentOf}
+use Rattle.crn_formats.specs.Lent.{lentOf}
 use Rattle.crn_palettes.specs.declared.Ended.{Ended}
 
 -- ---- what a load may count on

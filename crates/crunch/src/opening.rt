@@ -12,7 +12,7 @@ use crn_palettes::clear16;
 use crn_palettes::clear32;
 ghost use mathlib.Core.Path.{_≡_};
 ghost use Rattle.crn_format.specs.Opening.{streams, opening as «openingOf», zeroed};
-ghost use Rattle.crn_decomp.specs.Lent.{lentOf};
+ghost use Rattle.crn_formats.specs.Lent.{lentOf};
 ghost use Rattle.crunch.specs.Loading.{Passed};
 ghost use Rattle.crunch.specs.Opens.{emptyRecord, closed, Opens};
 

@@ -12,7 +12,7 @@ ghost use Prim.Native.Nat.{_+_, _≤_};
 ghost use lib.ListN.{length};
 ghost use Rattle.crn_format.specs.Palettes.{colorEndpoints, colorSelectors, alphaEndpoints, alphaSelectors};
 ghost use Rattle.crn_format.specs.Opening.{segment as «segmentOf»};
-ghost use Rattle.crn_decomp.specs.Lent.{lentOf};
+ghost use Rattle.crn_formats.specs.Lent.{lentOf};
 ghost use Rattle.crunch.specs.Loading.{Passed, PlaneFits, PlaneEnds, PalettesEnd};
 
 // The bytes of a part of the file.

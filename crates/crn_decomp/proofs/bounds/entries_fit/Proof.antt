@@ -1,5 +1,5 @@
 -- A palette has at most 8,192 entries, and one at least where the format uses it.
-use Rattle.crn_decomp.proofs.Joined.{at-least-one}
+use Rattle.crn_formats.proofs.Joined.{at-least-one}
 use Rattle.crn_decomp.proofs.bounds.entries_fit.Statement.{statement}
 use Rattle.crn_decomp.proofs.bounds.entries_fit.Tie as tie
 

@@ -1,6 +1,6 @@
 -- The header's and the data's size against the file's length.
 use Rattle.crn_format.specs.Header.{sizesHold}
-use Rattle.crn_decomp.proofs.Joined.{grouped}
+use Rattle.crn_formats.proofs.Joined.{grouped}
 use borrow.Author.Needs.{needs}
 use Rattle.crn_decomp.proofs.bounds.sizes_hold.Statement.{statement}
 use Rattle.crn_decomp.proofs.bounds.sizes_hold.Tie as tie

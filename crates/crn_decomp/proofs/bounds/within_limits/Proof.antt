@@ -1,6 +1,6 @@
 -- Every field of a header is within its limit.
 use Rattle.crn_format.specs.Header.{withinLimits}
-use Rattle.crn_decomp.proofs.Joined.{grouped}
+use Rattle.crn_formats.proofs.Joined.{grouped}
 use borrow.Author.Needs.{needs}
 use Rattle.crn_decomp.proofs.bounds.within_limits.Statement.{statement}
 use Rattle.crn_decomp.proofs.bounds.within_limits.Tie as tie

@@ -1,6 +1,6 @@
 -- Every segment that opening reads stands in the file.
 use Rattle.crn_format.specs.Opening.{segmentsStand}
-use Rattle.crn_decomp.proofs.Joined.{grouped}
+use Rattle.crn_formats.proofs.Joined.{grouped}
 use Rattle.crn_decomp.proofs.segments.segments_stand.Statement.{statement}
 use Rattle.crn_decomp.proofs.segments.segments_stand.Tie as tie
 
