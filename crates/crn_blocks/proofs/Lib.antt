@@ -1,0 +1,10 @@
+pub mod Places
+pub mod Turns
+pub mod Paint
+pub mod Rows
+pub mod Stages
+pub mod Bytes
+pub mod Whole
+pub mod Words
+pub mod Putting
+pub mod Counting

@@ -1,0 +1,154 @@
+// The blocks of a grid in a lent destination (document 01, Chunks): made of palette entries, put in their places, cleared and counted.
+ghost use mathlib.Core.Path.{_≡_};
+ghost use Prim.Native.Nat.{_+_, _*_, _<_, _≤_};
+ghost use lib.ListN.{length, getD};
+ghost use Rattle.crn_format.specs.Grid.{color, alpha, painted, facePainted, rowPainted, blank, cutouts as «cutoutsOf», faceCutouts, rowCutouts};
+ghost use Rattle.crn_blocks.specs.Sheet.{Room, bytesOf, putIn, standing};
+ghost use Rattle.crn_blocks.specs.Halves.{Half};
+use crn_format::Grid;
+
+// An entry of a palette of words. One past the end counts as 0.
+fn entry32(words: &[u32], at: u64) -> u64
+    ensures { λ r. ⌜ (r ≡ getD (now (words .entry)) at 0) × (r < 4294967296) ⌝ }
+{
+    if at < words.len() as u64 {
+        words[at as usize] as u64
+    } else {
+        0
+    }
+}
+
+fn entry16(words: &[u16], at: u64) -> u64
+    ensures { λ r. ⌜ (r ≡ getD (now (words .entry)) at 0) × (r < 65536) ⌝ }
+{
+    if at < words.len() as u64 {
+        words[at as usize] as u64
+    } else {
+        0
+    }
+}
+
+// The eight bytes of a colour plane: endpoint word, selector word. An entry past the end counts as 0.
+pub fn color_half(ends: &[u32], sels: &[u32], e: u64, s: u64) -> u64
+    ensures { λ r. ⌜ Half (color (now (ends .entry)) (now (sels .entry))) e s r ⌝ }
+{
+    entry32(ends, e) + 4294967296 * entry32(sels, s)
+}
+
+// The eight bytes of an alpha plane: endpoint word, three selector words. No slice is so long that it has an entry where `3 * s + 2` wraps.
+pub fn alpha_half(ends: &[u16], sels: &[u16], e: u64, s: u64) -> u64
+    ensures { λ r. ⌜ Half (alpha (now (ends .entry)) (now (sels .entry))) e s r ⌝ }
+{
+    let end = entry16(ends, e);
+    if 6148914691236517205 <= s {
+        return end;
+    }
+    end
+        + 65536
+            * (entry16(sels, 3 * s)
+                + 65536 * (entry16(sels, 3 * s + 1) + 65536 * entry16(sels, 3 * s + 2)))
+}
+
+// Puts a block in its place, where it is one of the grid.
+pub fn put_block(dst: &mut [u8], g: Grid, face: usize, x: usize, y: usize, lo: u64, hi: u64)
+    requires { ⌜ Room g (length (now dst)) ⌝ ∗ ⌜ face < g .faces ⌝ }
+    ensures { λ _. ⌜ now (dst .exit) ≡ putIn g face x y (bytesOf g lo hi) (now (dst .entry)) ⌝ }
+{
+    if x < g.columns {
+        if y < g.rows {
+            let at = face * g.distance + y * g.pitch + x * g.bytes;
+            crn_utils::put_little64(dst, at, lo);
+            if g.bytes == 16 {
+                crn_utils::put_little64(dst, at + 8, hi);
+            }
+        }
+    }
+}
+
+// A row of blocks, and the rows of a face, zeroed.
+fn clear_row(dst: &mut [u8], g: Grid, face: usize, y: usize)
+    requires { ⌜ Room g (length (now dst)) ⌝ ∗ ⌜ face < g .faces ⌝ ∗ ⌜ y < g .rows ⌝ }
+    ensures { λ _. ⌜ now (dst .exit) ≡ rowPainted g (blank g) face y (g .columns) (now (dst .entry)) ⌝ }
+{
+    let mut x = 0;
+    while x < g.columns {
+        put_block(dst, g, face, x, y, 0, 0);
+        x += 1;
+    }
+}
+
+fn clear_face(dst: &mut [u8], g: Grid, face: usize)
+    requires { ⌜ Room g (length (now dst)) ⌝ ∗ ⌜ face < g .faces ⌝ }
+    ensures { λ _. ⌜ now (dst .exit) ≡ facePainted g (blank g) face (g .rows) (now (dst .entry)) ⌝ }
+{
+    let mut y = 0;
+    while y < g.rows {
+        clear_row(dst, g, face, y);
+        y += 1;
+    }
+}
+
+// Zeroes the blocks of the grid.
+pub fn clear(dst: &mut [u8], g: Grid)
+    requires { ⌜ Room g (length (now dst)) ⌝ }
+    ensures { λ _. ⌜ now (dst .exit) ≡ painted g (blank g) (g .faces) (now (dst .entry)) ⌝ }
+{
+    let mut face = 0;
+    while face < g.faces {
+        clear_face(dst, g, face);
+        face += 1;
+    }
+}
+
+// The number of two bytes, the first the lower.
+fn pair(dst: &[u8], at: usize) -> u32
+    requires { ⌜ at + 2 ≤ length (now dst) ⌝ }
+    ensures { λ r. ⌜ r ≡ getD (now (dst .entry)) at 0 + 256 * getD (now (dst .entry)) (at + 1) 0 ⌝ }
+{
+    dst[at] as u32 + 256 * (dst[at + 1] as u32)
+}
+
+// The cut-outs of a row of blocks, and of a face.
+fn cutouts_row(dst: &[u8], g: Grid, face: usize, y: usize) -> u64
+    requires { ⌜ Room g (length (now dst)) ⌝ ∗ ⌜ face < g .faces ⌝ ∗ ⌜ y < g .rows ⌝ }
+    ensures { λ r. ⌜ (r ≡ rowCutouts (standing g (now (dst .entry))) face y (g .columns)) × (r ≤ 65536) ⌝ }
+{
+    let mut n: u64 = 0;
+    let mut x = 0;
+    let mut at = face * g.distance + y * g.pitch;
+    while x < g.columns {
+        if pair(dst, at) < pair(dst, at + 2) {
+            n += 1;
+        }
+        at += g.bytes;
+        x += 1;
+    }
+    n
+}
+
+fn cutouts_face(dst: &[u8], g: Grid, face: usize) -> u64
+    requires { ⌜ Room g (length (now dst)) ⌝ ∗ ⌜ face < g .faces ⌝ }
+    ensures { λ r. ⌜ (r ≡ faceCutouts g (standing g (now (dst .entry))) face (g .rows)) × (r ≤ 4294967296) ⌝ }
+{
+    let mut n = 0;
+    let mut y = 0;
+    while y < g.rows {
+        n += cutouts_row(dst, g, face, y);
+        y += 1;
+    }
+    n
+}
+
+// How many of the grid's blocks are cut-outs: their first word is below their second.
+pub fn cutouts(dst: &[u8], g: Grid) -> u64
+    requires { ⌜ Room g (length (now dst)) ⌝ }
+    ensures { λ r. ⌜ r ≡ «cutoutsOf» g (standing g (now (dst .entry))) (g .faces) ⌝ }
+{
+    let mut n = 0;
+    let mut face = 0;
+    while face < g.faces {
+        n += cutouts_face(dst, g, face);
+        face += 1;
+    }
+    n
+}

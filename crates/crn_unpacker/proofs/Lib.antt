@@ -1,0 +1,5 @@
+pub mod States
+pub mod Positions
+pub mod Steps
+pub mod Shapes
+pub mod Whole

@@ -1,0 +1,221 @@
+-- A chunk that is read has a list of tiles and four indices for each plane, so that its blocks have eight bytes for each.
+use Prim.Native.Nat.{ℕ, zero, suc, _+_, _*_, _<_}
+use mathlib.Core.Path.{_≡_, refl, sym, ap, _∙_, subst}
+use mathlib.Core.Bool.{Bool}
+use mathlib.Core.List.{List, [], _∷_, _++_}
+use native.Mathlib.Omega.{arith}
+use native.Mathlib.Nat.{not-suc-le-zero}
+use lib.ListN.{length, getD, length-append}
+use Rattle.crn_format.specs.Reading.{Reading, answer, refuse, want, mark, next, Step, got, refused, then, Source, run}
+use Rattle.crn_format.specs.Level.{Plane, Running, Chunk, endpointIndices, planeEndpoints, selectorIndex, planeSelectors, positionSelectors, encoding, tileCounts, tileAt, lasts, lastRow, chunk}
+use Rattle.crn_format.specs.Grid.{Shade, color, alpha, half, halves, little, nthList, blockOf}
+use Rattle.crn_unpacker.specs.States.{stateTo, chunkTo}
+use Rattle.crn_unpacker.proofs.States.{stays, chunk-got}
+
+-- ---- what holds of every answer of a reading
+
+unfoldable Every : {A : Type 0} → (A → Type 0) → Reading A → Type 0
+Every P (answer a) = P a
+Every P (refuse n) = Unit {0}
+Every P (want x f) = (s : ℕ) → Every P (f s)
+Every P (mark m) = Every P m
+
+every-run : {S A : Type 0} (P : A → Type 0) (src : Source S) (m : Reading A) (w : S) {a : A} {v : S} → Every P m → run src m w ≡ got a v → P a
+unfolding Every run
+every-run P src (answer b) w {a} h e = let z : b ≡ a = cc in subst P z h
+every-run P src (refuse n) w h e = let z : _≡_ {A = ℕ} 0 1 = cc in absurd (omega arith)
+every-run {S} {A} P src (want x f) w {a} {v} h e = go (λ s u. every-run P src (f s) u (h s)) (src .serve x w) e
+  where
+    go : ((s : ℕ) (u : S) → run src (f s) u ≡ got a v → P a) → (y : Step S ℕ) → then y (λ s u. run src (f s) u) ≡ got a v → P a
+    go rest (got s u) e = rest s u (unfold then in e)
+    go rest (refused n u) e = let z : _≡_ {A = Step S A} (refused n u) (got a v) = (unfold then in e) in let y : _≡_ {A = ℕ} 0 1 = cc in absurd (omega arith)
+every-run P src (mark m) w h e = every-run P src m (src .marked w) h e
+
+every-next : {A B : Type 0} (Q : A → Type 0) (P : B → Type 0) (m : Reading A) (k : A → Reading B) → Every Q m → ((a : A) → Q a → Every P (k a))
+    → Every P (next m k)
+unfolding Every next
+every-next Q P (answer a) k h g = g a h
+every-next Q P (refuse n) k h g = tt
+every-next Q P (want x f) k h g = λ s. every-next Q P (f s) k (h s) g
+every-next Q P (mark m) k h g = every-next Q P m k h g
+
+anything : {A : Type 0} (m : Reading A) → Every (λ _. Unit {0}) m
+unfolding Every
+anything (answer a) = tt
+anything (refuse n) = tt
+anything (want x f) = λ s. anything (f s)
+anything (mark m) = anything m
+
+answering : {A : Type 0} (P : A → Type 0) {a : A} → P a → Every P (answer a)
+unfolding Every
+answering P h = h
+
+-- ---- lists for each plane
+
+-- n lists of length m
+pub data Rowed (m : ℕ) : ℕ → List (List ℕ) → Type 0 where
+  none : Rowed m 0 []
+  more : {n : ℕ} {r : List ℕ} {rs : List (List ℕ)} → length r ≡ m → Rowed m n rs → Rowed m (suc n) (r ∷ rs)
+
+one-more : {m n : ℕ} {rs : List (List ℕ)} (r : List ℕ) → Rowed m n rs → length r ≡ m → Rowed m (suc n) (rs ++ (r ∷ []))
+one-more r none h = more h none
+one-more r (more g rs) h = more g (one-more r rs h)
+
+nth-long : {m n : ℕ} {rs : List (List ℕ)} → Rowed m n rs → (q : ℕ) → q < n → length (nthList rs q) ≡ m
+unfolding nthList
+nth-long none q h = absurd (not-suc-le-zero h)
+nth-long (more g rs) zero h = g
+nth-long (more g rs) (suc q) h = nth-long rs q (omega arith)
+
+last-long : {m n : ℕ} (is : List ℕ) {rs : List (List ℕ)} → length is ≡ m → Rowed m n rs → length (lastRow is rs) ≡ m
+unfolding lastRow
+last-long is h none = h
+last-long is h (more {r = r} g rs) = last-long r g rs
+
+lasts-long : (is : List ℕ) (ts : List (List ℕ)) → length ts ≡ length is → length (lasts is ts) ≡ length is
+unfolding lasts
+lasts-long [] ts h = refl
+lasts-long (i ∷ is) [] h = absurd (omega arith)
+lasts-long (i ∷ is) (t ∷ ts) h = ap suc (lasts-long is ts (omega arith))
+
+-- ---- the readings of a chunk
+
+-- an answer put before a list of answers
+one-longer : {A : Type 0} (m : Reading A) (rest : Reading (List A)) (n : ℕ) → Every (λ xs. length xs ≡ n) rest
+    → Every (λ xs. length xs ≡ suc n) (next m λ a. next rest λ more. answer (a ∷ more))
+one-longer m rest n h =
+    every-next (λ _. Unit {0}) (λ xs. length xs ≡ suc n) m (λ a. next rest λ more. answer (a ∷ more)) (anything m)
+    (λ a _. every-next (λ xs. length xs ≡ n) (λ xs. length xs ≡ suc n) rest (λ more. answer (a ∷ more)) h
+    (λ more long. answering (λ xs. length xs ≡ suc n) (ap suc long)))
+
+tiles-long : (ps : List Plane) (n : ℕ) (is : List ℕ) → length is ≡ length ps → Every (λ ts. length ts ≡ length ps) (planeEndpoints ps n is)
+unfolding planeEndpoints
+tiles-long [] n is h = answering (λ ts. length ts ≡ 0) refl
+tiles-long (p ∷ ps) n [] h = absurd (omega arith)
+tiles-long (p ∷ ps) n (i ∷ is) h =
+    one-longer (endpointIndices p n i []) (planeEndpoints ps n is) (length ps) (tiles-long ps n is (omega arith))
+
+selectors-long : (ps : List Plane) (inside : Bool) (is : List ℕ) → length is ≡ length ps → Every (λ js. length js ≡ length ps) (planeSelectors ps inside is)
+unfolding planeSelectors
+selectors-long [] inside is h = answering (λ js. length js ≡ 0) refl
+selectors-long (p ∷ ps) inside [] h = absurd (omega arith)
+selectors-long (p ∷ ps) inside (i ∷ is) h =
+    one-longer (selectorIndex p inside i) (planeSelectors ps inside is) (length ps) (selectors-long ps inside is (omega arith))
+
+positions-long : (ps : List Plane) (insides : List Bool) (is : List ℕ) (rows : List (List ℕ)) (n : ℕ) → length is ≡ length ps → Rowed (length ps) n rows
+    → Every (Rowed (length ps) (n + length insides)) (positionSelectors ps insides is rows)
+unfolding positionSelectors
+positions-long ps [] is rows n h r =
+    let e : n ≡ n + 0 = omega arith in answering (Rowed (length ps) (n + 0)) (subst (λ (k : ℕ). Rowed (length ps) k rows) e r)
+positions-long ps (inside ∷ insides) is rows n h r =
+    let e : suc n + length insides ≡ n + suc (length insides) = omega arith in
+    subst (λ (k : ℕ). Every (Rowed (length ps) k) (next (planeSelectors ps inside is) λ js. positionSelectors ps insides js (rows ++ (js ∷ [])))) e
+    (every-next (λ js. length js ≡ length ps) (Rowed (length ps) (suc n + length insides)) (planeSelectors ps inside is) (λ js. positionSelectors ps insides js (rows ++ (js ∷ [])))
+    (selectors-long ps inside is h)
+    (λ js long. positions-long ps insides js (rows ++ (js ∷ [])) (suc n) long (one-more js r long)))
+
+-- ---- a chunk
+
+-- an index for each of m planes is carried on
+pub record Sized (m : ℕ) (r : Running) : Type 0 where
+  pub endpoint : length (r .endpoint) ≡ m
+  pub selector : length (r .selector) ≡ m
+
+pub record Shaped (m : ℕ) (c : Chunk) : Type 0 where
+  pub tiles : length (c .tiles) ≡ m
+  pub positions : Rowed m 4 (c .positions)
+
+abbrev Good : ℕ → Chunk × Running → Type 0
+Good m a = Shaped m (a .0) × Sized m (a .1)
+
+module _ (ls : List ℕ) (ps : List Plane) where
+  chunk-good : (inside : List Bool) (r : Running) → length inside ≡ 4 → Sized (length ps) r → Every (Good (length ps)) (chunk ls ps inside r)
+  unfolding chunk
+  chunk-good inside r four sized =
+      every-next (λ _. Unit {0}) (Good (length ps)) (encoding ls (r .pending)) _ (anything (encoding ls (r .pending)))
+      (λ e _. every-next (λ ts. length ts ≡ length ps) (Good (length ps)) (planeEndpoints ps (getD tileCounts (e .0) 0) (r .endpoint)) _
+      (tiles-long ps (getD tileCounts (e .0) 0) (r .endpoint) (sized .endpoint))
+      (λ t tiles. every-next (Rowed (length ps) (0 + length inside)) (Good (length ps)) (positionSelectors ps inside (r .selector) []) _
+      (positions-long ps inside (r .selector) [] 0 (sized .selector) none)
+      (λ q rows. answering (Good (length ps)) (
+        record { tiles = tiles; positions = subst (λ (k : ℕ). Rowed (length ps) k q) (omega arith) rows },
+        record {
+          endpoint = lasts-long (r .endpoint) t (tiles ∙ sym (sized .endpoint)) ∙ sized .endpoint;
+          selector = last-long (r .selector) (sized .selector) rows;
+        },
+      ))))
+
+  module _ {S : Type 0} (src : Source S) (flags : ℕ → List Bool) (four : (n : ℕ) → length (flags n) ≡ 4) (r : Running) (w : S) (sized : Sized (length ps) r) where
+    -- where the next state is reached, so is the chunk before it
+    record Reached (n : ℕ) (q₁ : Running) (v₁ : S) : Type 0 where
+      at : Running
+      place : S
+      state : stateTo src ls ps flags r w n ≡ got at place
+      read : Chunk
+      runs : run src (chunk ls ps (flags n) at) place ≡ got (read, q₁) v₁
+
+    reached : (n : ℕ) (q₁ : Running) (v₁ : S) → stateTo src ls ps flags r w (suc n) ≡ got q₁ v₁ → Reached n q₁ v₁
+    unfolding stateTo
+    reached n q₁ v₁ e = outer (stateTo src ls ps flags r w n) refl e
+      where
+        inner : (q : Running) (v : S) → stateTo src ls ps flags r w n ≡ got q v → (z : Step S (Chunk × Running)) → run src (chunk ls ps (flags n) q) v ≡ z
+            → then {B = Running} z (λ b u. got (b .1) u) ≡ got q₁ v₁ → Reached n q₁ v₁
+        inner q v is (got b u) runs e =
+            let z : _≡_ {A = Step S Running} (got (b .1) u) (got q₁ v₁) = (unfold then in e) in
+            let eq : b .1 ≡ q₁ = cc in
+            let ev : u ≡ v₁ = cc in
+            record { at = q; place = v; state = is; read = b .0; runs = runs ∙ ap (λ (x : Running). got (b .0, x) u) eq ∙ ap (λ (x : S). got (b .0, q₁) x) ev }
+        inner q v is (refused x u) runs e =
+            let z : _≡_ {A = Step S Running} (refused x u) (got q₁ v₁) = (unfold then in e) in let y : _≡_ {A = ℕ} 0 1 = cc in absurd (omega arith)
+
+        outer : (y : Step S Running) → stateTo src ls ps flags r w n ≡ y
+            → then y (λ q v. then {B = Running} (run src (chunk ls ps (flags n) q) v) (λ b u. got (b .1) u)) ≡ got q₁ v₁ → Reached n q₁ v₁
+        outer (got q v) is e = inner q v is (run src (chunk ls ps (flags n) q) v) refl (unfold then in e)
+        outer (refused x u) is e =
+            let z : _≡_ {A = Step S Running} (refused x u) (got q₁ v₁) = (unfold then in e) in let y : _≡_ {A = ℕ} 0 1 = cc in absurd (omega arith)
+
+    state-sized : (n : ℕ) (q : Running) (v : S) → stateTo src ls ps flags r w n ≡ got q v → Sized (length ps) q
+    unfolding stateTo
+    state-sized zero q v e = let z : r ≡ q = cc in subst (Sized (length ps)) z sized
+    state-sized (suc n) q v e =
+        let x = reached n q v e in
+        every-run (Good (length ps)) src (chunk ls ps (flags n) (x .at)) (x .place)
+        (chunk-good (flags n) (x .at) (four n) (state-sized n (x .at) (x .place) (x .state))) (x .runs) .1
+
+    -- a chunk that comes before a state that is reached
+    pub chunk-shaped : (n k : ℕ) {q : Running} {v : S} → k < n → stateTo src ls ps flags r w n ≡ got q v → Shaped (length ps) (chunkTo src ls ps flags r w k)
+    chunk-shaped n k {q} {v} h e = go (stateTo src ls ps flags r w (suc k)) refl
+      where
+        go : (y : Step S Running) → stateTo src ls ps flags r w (suc k) ≡ y → Shaped (length ps) (chunkTo src ls ps flags r w k)
+        go (got q₁ v₁) is =
+            let x = reached k q₁ v₁ is in
+            let same : chunkTo src ls ps flags r w k ≡ x .read = chunk-got src ls ps flags r w k (flags k) (x .state) refl (x .runs) in
+            subst (Shaped (length ps)) (sym same)
+            (every-run (Good (length ps)) src (chunk ls ps (flags k) (x .at)) (x .place)
+            (chunk-good (flags k) (x .at) (four k) (state-sized k (x .at) (x .place) (x .state))) (x .runs) .0)
+        go (refused x u) is =
+            let z : _≡_ {A = Step S Running} (refused x u) (got q v) = sym (stays src ls ps flags r w (suc k) n h is) ∙ e in
+            let y : _≡_ {A = ℕ} 0 1 = cc in
+            absurd (omega arith)
+
+-- ---- its blocks
+
+half-long : (p : Shade) (e s : ℕ) → length (half p e s) ≡ 8
+unfolding half little
+half-long (color ends sels) e s = refl
+half-long (alpha ends sels) e s = refl
+
+halves-long : (ps : List Shade) (ts : List (List ℕ)) (ss : List ℕ) (tile : ℕ) → length ts ≡ length ps → length ss ≡ length ps
+    → length (halves ps ts ss tile) ≡ 8 * length ps
+unfolding halves
+halves-long [] ts ss tile h g = refl
+halves-long (p ∷ ps) [] ss tile h g = absurd (omega arith)
+halves-long (p ∷ ps) (t ∷ ts) [] tile h g = absurd (omega arith)
+halves-long (p ∷ ps) (t ∷ ts) (s ∷ ss) tile h g =
+    length-append (half p (getD t tile 0) s) (halves ps ts ss tile)
+    ∙ omega (arith, half-long p (getD t tile 0) s, halves-long ps ts ss tile (omega arith) (omega arith))
+
+pub block-long : (ps : List Shade) (c : Chunk) (q : ℕ) → Shaped (length ps) c → q < 4 → length (blockOf ps c q) ≡ 8 * length ps
+unfolding blockOf
+block-long ps c q shaped h =
+    halves-long ps (c .tiles) (nthList (c .positions) q) (tileAt (c .encoding) q) (shaped .tiles) (nth-long (shaped .positions) q h)

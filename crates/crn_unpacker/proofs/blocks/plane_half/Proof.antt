@@ -1,0 +1,22 @@
+-- A plane is an alpha or a colour plane.
+use borrow.Author.Needs.{needs}
+use Rattle.crn_unpacker.specs.Going.{shadeOf}
+use Rattle.crn_unpacker.proofs.blocks.plane_half.Statement.{statement}
+use Rattle.crn_unpacker.proofs.blocks.plane_half.Tie as tie
+
+alpha-half-requires : tie.Need-alpha-half-requires
+alpha-half-requires c κs = search needs
+
+returns : tie.Need-returns
+unfolding shadeOf
+returns c = rw (c .before .if1 .taken) (c .alpha-half .ensures)
+
+color-half-requires : tie.Need-color-half-requires
+color-half-requires c κs = search needs
+
+returns-2 : tie.Need-returns-2
+unfolding shadeOf
+returns-2 c = rw (c .before .if1 .left) (c .color-half .ensures)
+
+pub plane-half-spec : {M : Type 1} → statement M
+plane-half-spec = tie.close (tie.spec alpha-half-requires returns color-half-requires returns-2)

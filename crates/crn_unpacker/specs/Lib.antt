@@ -1,0 +1,4 @@
+pub mod States
+pub mod Going
+pub mod Blocks
+pub mod Rows
