@@ -10,7 +10,7 @@ use lib.Seq.{sets, length-sets}
 use Rattle.crn_format.specs.Grid.{placeOf}
 use Rattle.crn_format.specs.declared.Grid.{Grid}
 use Rattle.crn_blocks.specs.Sheet.{In, Within, Room, Painted, Outside, Covered, turn, chunkNumber, putIn}
-use Rattle.crn_blocks.proofs.Places.{below-or, beside, sets-in, sets-out, apart, lies, Same}
+use Rattle.crn_blocks.proofs.Places.{below-or, beside, sets-in, sets-out, apart, lies, room-kept, Same}
 use Rattle.crn_blocks.proofs.Turns.{turn-tells, turn-of}
 
 -- a painting touches nothing outside the grid
@@ -120,3 +120,11 @@ module _ {g : Grid} {value : ℕ → List ℕ} where
 
       t : turn g f x y ≡ 4 * chunkNumber g f cx cy + q
       t = turn-of g f x y cx cy (omega arith) (omega arith) ∙ omega arith
+
+  -- one position more of a chunk
+  pub put-more : {a : ℕ} {c d e : List ℕ} (f cx cy q x y : ℕ) (bs : List ℕ) → Room g (length c) → Covered g f cx cy → q < 4
+      → a ≤ 4 * chunkNumber g f cx cy + q → x ≡ 2 * cx + q % 2 → y ≡ 2 * cy + q / 2 → Painted g value a (4 * chunkNumber g f cx cy + q) c d
+      → e ≡ putIn g f x y bs d → bs ≡ value (4 * chunkNumber g f cx cy + q) → length bs ≡ g .bytes
+      → Painted g value a (4 * chunkNumber g f cx cy + (q + 1)) c e
+  put-more {a} {c} {d} {e} f cx cy q x y bs room in-chunk four from ex ey before put is long =
+      until (omega arith) (then room from (omega arith) before (put-in f cx cy q x y bs (room-kept room (before .long)) in-chunk four ex ey put is long))
