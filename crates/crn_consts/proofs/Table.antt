@@ -24,7 +24,7 @@ abbrev pub allBelow : ℕ → List ℕ → Bool
 allBelow n [] = ltb 0 n
 allBelow n (x ∷ xs) = both (ltb x n) (allBelow n xs)
 
-each-below : (n : ℕ) (xs : List ℕ) (i : ℕ) → T (allBelow n xs) → getD xs i 0 < n
+pub each-below : (n : ℕ) (xs : List ℕ) (i : ℕ) → T (allBelow n xs) → getD xs i 0 < n
 each-below n [] i t = ltb→lt 0 n t
 each-below n (x ∷ xs) zero t = ltb→lt x n (both-left (ltb x n) (allBelow n xs) t)
 each-below n (x ∷ xs) (suc i) t = each-below n xs i (both-right (ltb x n) (allBelow n xs) t)

@@ -31,17 +31,21 @@ fn entry(table: &[u8], at: usize) -> u32
 pub fn tile_count(encoding: u32) -> u32
     ensures { λ r. ⌜ (r ≡ getD tileCounts encoding 0) × (r ≤ 4) ⌝ }
 {
-    entry(&tables::CHUNK_ENCODING_NUM_TILES, encoding as usize)
+    if encoding < 8 {
+        return (tables::CHUNK_ENCODING_NUM_TILES >> (4 * encoding)) % 16;
+    }
+    0
 }
 
 // The tile at a position of a chunk: 0 left-top, 1 right-top, 2 left-bottom, 3 right-bottom.
 pub fn tile(encoding: u32, position: u32) -> u32
     ensures { λ r. ⌜ (r ≡ tileAt encoding position) × (r < 4) ⌝ }
 {
-    entry(
-        &tables::CHUNK_ENCODING_TILES,
-        4 * encoding as usize + position as usize,
-    )
+    let at = 4 * encoding as usize + position as usize;
+    if at < 32 {
+        return ((tables::CHUNK_ENCODING_TILES >> (2 * at)) % 4) as u32;
+    }
+    0
 }
 
 // How a block writes a colour selector's value.

@@ -1,43 +1,12 @@
 // The tables themselves, under their names in the Rust.
 
-// How many tiles a chunk has, for each encoding.
-pub const CHUNK_ENCODING_NUM_TILES: [u8; 8] = [1, 2, 2, 3, 3, 3, 3, 4];
+// How many tiles a chunk has, for each encoding: four bits each, encoding 0 lowest. (An array that is looked up in is built anew on the
+// stack at each call.)
+pub const CHUNK_ENCODING_NUM_TILES: u32 = 0x43333221;
 
-// The tiles at a chunk's four positions, left-top, right-top, left-bottom, right-bottom, for each encoding.
-pub const CHUNK_ENCODING_TILES: [u8; 32] = [
-    0, // encoding 0
-    0,
-    0,
-    0,
-    0, // encoding 1
-    0,
-    1,
-    1,
-    0, // encoding 2
-    1,
-    0,
-    1,
-    0, // encoding 3
-    0,
-    1,
-    2,
-    1, // encoding 4
-    2,
-    0,
-    0,
-    0, // encoding 5
-    1,
-    0,
-    2,
-    1, // encoding 6
-    0,
-    2,
-    0,
-    0, // encoding 7
-    1,
-    2,
-    3,
-];
+// The tiles at a chunk's four positions, left-top, right-top, left-bottom, right-bottom, for each encoding: two bits each, so a byte
+// for an encoding, encoding 0 lowest.
+pub const CHUNK_ENCODING_TILES: u64 = 0xe4_21_84_09_90_44_50_00;
 
 // How a block writes a selector value, of a colour and of an alpha.
 pub const DXT1_FROM_LINEAR: [u8; 4] = [0, 2, 3, 1];

@@ -35,7 +35,7 @@ same-length : tie.Need-same-length Inv-loop μ-loop
 same-length c = c .before .before .before .before .before .loop .inv .long
 
 returns : tie.Need-returns Inv-loop μ-loop
-returns c = picking-lost (c .before .before .before .before .before .loop .inv) (c .before .before .before .before .loop-test .taken) (c .before .before .before .lies-inside .ensures) (c .before .before .position .ensures) (c .enum-told .given .1)
+returns c = picking-lost (c .before .before .before .before .before .loop .inv) (omega arith) (c .before .before .before .lies-inside .ensures) (c .before .before .position .ensures) (c .enum-told .given .1)
 
 add-out : tie.Need-add-out Inv-loop μ-loop
 add-out c = omega arith
@@ -62,13 +62,13 @@ loop-less : tie.Need-loop-less Inv-loop μ-loop
 loop-less c = omega arith
 
 loop-again : tie.Need-loop-again Inv-loop μ-loop
-loop-again c = picking-more (c .before .before .before .before .before .before .loop .inv) (c .before .before .before .before .before .loop-test .taken) (c .before .before .before .before .lies-inside .ensures) (c .before .before .before .position .ensures) (c .before .a .given .1) (c .before .before .before .before .before .before .before .before .before .before .before .pre .1 .1)
+loop-again c = picking-more (c .before .before .before .before .before .before .loop .inv) (omega arith) (c .before .before .before .before .lies-inside .ensures) (c .before .before .before .position .ensures) (c .before .a .given .1) (c .before .before .before .before .before .before .before .before .before .before .before .pre .1 .1)
 
 same-length-2 : tie.Need-same-length-2 Inv-loop μ-loop
 same-length-2 c = c .before .loop .inv .long
 
 returns-2 : tie.Need-returns-2 Inv-loop μ-loop
-returns-2 c = picking-done (c .before .loop .inv) (c .loop-test .left)
+returns-2 c = picking-done (c .before .loop .inv) (omega arith)
 
 pub positions-spec : {M : Type 1} → statement M
 positions-spec =

@@ -1,25 +1,33 @@
--- The tile at a position of an encoding: the table is the definition's list.
+-- The tile at a position of an encoding: the number has the definition's list.
+use native.Mathlib.Omega.{arith}
 use Rattle.crn_format.specs.Level.{tileMap}
-use Rattle.crn_consts.proofs.Table.{below}
+use Rattle.crn_consts.proofs.Packed.{packed, past-end}
 use borrow.Author.Needs.{needs}
 use Rattle.crn_consts.proofs.tile.Statement.{statement}
 use Rattle.crn_consts.proofs.tile.Tie as tie
 
-slice-aggregate-entry : tie.Need-slice-aggregate-entry
-slice-aggregate-entry c = search needs
+mul-at : tie.Need-mul-at
+mul-at c = search needs
 
-mul-entry : tie.Need-mul-entry
-mul-entry c = search needs
+add-at : tie.Need-add-at
+add-at c = search needs
 
-add-entry : tie.Need-add-entry
-add-entry c = search needs
+mul-result : tie.Need-mul-result
+mul-result c = search needs
 
-entry-requires : tie.Need-entry-requires
-entry-requires c κs = search needs
+shr-result : tie.Need-shr-result
+shr-result c = search needs
+
+cast-result : tie.Need-cast-result
+cast-result c = search needs
 
 returns : tie.Need-returns
 unfolding tileMap
-returns c = (c .entry .ensures .value, below 4 (c .entry .ensures) tt)
+returns c = (packed 2 _ tileMap _ tt (c .if1 .taken), omega arith)
+
+returns-2 : tie.Need-returns-2
+unfolding tileMap
+returns-2 c = (past-end tileMap _ (c .if1 .left), omega arith)
 
 pub tile-spec : {M : Type 1} → statement M
-tile-spec = tie.close (tie.spec slice-aggregate-entry mul-entry add-entry entry-requires returns)
+tile-spec = tie.close (tie.spec mul-at add-at mul-result shr-result cast-result returns returns-2)

@@ -1,20 +1,27 @@
--- How many tiles an encoding has: the table is the definition's list.
+-- How many tiles an encoding has: the number has the definition's list.
 use native.Mathlib.Omega.{arith}
 use Rattle.crn_format.specs.Level.{tileCounts}
-use Rattle.crn_consts.proofs.Table.{below}
+use Rattle.crn_consts.proofs.Table.{each-below}
+use Rattle.crn_consts.proofs.Packed.{packed, past-end}
 use borrow.Author.Needs.{needs}
 use Rattle.crn_consts.proofs.tile_count.Statement.{statement}
 use Rattle.crn_consts.proofs.tile_count.Tie as tie
 
-slice-aggregate-entry : tie.Need-slice-aggregate-entry
-slice-aggregate-entry c = search needs
+mul-result : tie.Need-mul-result
+mul-result c = search needs
 
-entry-requires : tie.Need-entry-requires
-entry-requires c κs = search needs
+shr-result : tie.Need-shr-result
+shr-result c = search needs
 
 returns : tie.Need-returns
 unfolding tileCounts
-returns c = (c .entry .ensures .value, omega (arith, below 5 (c .entry .ensures) tt))
+returns c =
+    let e = packed 4 _ tileCounts _ tt (c .if1 .taken) in
+    (e, rw e (omega (arith, each-below 5 tileCounts (c .before .args .encoding) tt)))
+
+returns-2 : tie.Need-returns-2
+unfolding tileCounts
+returns-2 c = (past-end tileCounts _ (c .if1 .left), omega arith)
 
 pub tile-count-spec : {M : Type 1} → statement M
-tile-count-spec = tie.close (tie.spec slice-aggregate-entry entry-requires returns)
+tile-count-spec = tie.close (tie.spec mul-result shr-result returns returns-2)
