@@ -1,0 +1,7 @@
+pub mod Limits
+pub mod Parts
+pub mod Made
+pub mod Formats
+pub mod Drawn
+pub mod ByRecord
+pub mod Checks

@@ -1,0 +1,5 @@
+pub mod Unpacks
+pub mod Tables
+pub mod Planning
+pub mod Levels
+pub mod Refusals
