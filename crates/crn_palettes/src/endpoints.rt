@@ -19,9 +19,10 @@ use crate::clearing::clear16;
 use crate::clearing::clear32;
 use crate::reading::Reached;
 use crate::reading::wide;
+use crn_static_huffman_data_model::draw;
+use crn_static_huffman_data_model::ready;
 use crn_symbol_codec::Cursor;
 use crn_symbol_codec::Taken;
-use crn_symbol_codec::draw;
 use crn_symbol_codec::place;
 use crn_symbol_codec::refusal;
 
@@ -48,7 +49,8 @@ fn alpha_sums(
     let mut at = c;
     let mut i: usize = 0;
     while i < 2 {
-        let t = draw(lookup, sorted, seg, at);
+        let near = ready(seg, at);
+        let t = draw(lookup, sorted, seg, near);
         let Taken::Value(s, d) = t else {
             return Reached::Refused(refusal(t), place(seg, at));
         };
@@ -154,7 +156,8 @@ fn color_sums<'a>(
     let mut i: usize = 0;
     while i < 6 {
         let six = six_bits(i);
-        let t = draw_either(six, lookup5, sorted5, lookup6, sorted6, seg, at);
+        let near = ready(seg, at);
+        let t = draw_either(six, lookup5, sorted5, lookup6, sorted6, seg, near);
         let Taken::Value(s, d) = t else {
             return Reached::Refused(refusal(t), place(seg, at));
         };

@@ -18,9 +18,10 @@ use crate::clearing::clear32;
 use crate::reading::Reached;
 use crate::reading::wide;
 use crn_consts::Deltas;
+use crn_static_huffman_data_model::draw;
+use crn_static_huffman_data_model::ready;
 use crn_symbol_codec::Cursor;
 use crn_symbol_codec::Taken;
-use crn_symbol_codec::draw;
 use crn_symbol_codec::place;
 use crn_symbol_codec::refusal;
 
@@ -89,7 +90,8 @@ fn next_values(
     let mut at = c;
     let mut j: usize = 0;
     while j < 8 {
-        let t = draw(lookup, sorted, seg, at);
+        let near = ready(seg, at);
+        let t = draw(lookup, sorted, seg, near);
         let Taken::Value(s, d) = t else {
             return Reached::Refused(refusal(t), place(seg, at));
         };

@@ -12,11 +12,12 @@ ghost use Rattle.crn_symbol_codec.specs.Decoders.{Decodes};
 ghost use Rattle.crn_static_huffman_data_model.specs.Parts.{Sends, zeroRun, lastRun, drawnRun, allRuns, Runs, SomeCode, declined, Tells, TellsAt};
 use crate::Received;
 use crate::build;
+use crate::drawing::draw;
+use crate::drawing::ready;
 use crate::is_code;
 use crn_format::Table;
 use crn_symbol_codec::Cursor;
 use crn_symbol_codec::Taken;
-use crn_symbol_codec::draw;
 use crn_symbol_codec::number;
 use crn_symbol_codec::place;
 use crn_symbol_codec::refusal;
@@ -140,7 +141,8 @@ fn next_run(lookup: &[u32], sorted: &[u16], seg: &[u8], c: Cursor, last: u8) -> 
     requires { ⌜ Holds (now seg) c ⌝ ∗ ⌜ SomeCode (now lookup) (now sorted) ⌝ }
     ensures { λ r. ⌜ ((cl : List ℕ) → Decodes cl (now (lookup .entry)) (now (sorted .entry)) → Runs (now (seg .entry)) (drawnRun cl last) c («placeOf» c) r) ⌝ }
 {
-    let t = draw(lookup, sorted, seg, c);
+    let near = ready(seg, c);
+    let t = draw(lookup, sorted, seg, near);
     let Taken::Value(s, d) = t else {
         return Run::Refused(refusal(t), c);
     };

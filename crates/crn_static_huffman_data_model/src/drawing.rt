@@ -1,0 +1,52 @@
+// A draw for the loops over many symbols.
+ghost use mathlib.Core.Path.{_≡_};
+ghost use mathlib.Core.List.{List};
+ghost use Prim.Native.Nat.{ℕ};
+ghost use Rattle.crn_format.specs.Reading.{aSymbol};
+ghost use Rattle.crn_symbol_codec.specs.Cursors.{place, Holds};
+ghost use Rattle.crn_symbol_codec.specs.Decoders.{Usable, Decodes};
+ghost use Rattle.crn_symbol_codec.specs.Taking.{Takes};
+use crn_symbol_codec::Cursor;
+use crn_symbol_codec::Taken;
+use crn_symbol_codec::refill;
+
+// The compiler takes a function into its callers up to a certain length. These two are short enough one by one, so that the cursor stays in
+// registers; what is rare is left to `crn_symbol_codec::draw`.
+
+// The cursor with 16 bits and more, but near the segment's end.
+pub fn ready(seg: &[u8], c: Cursor) -> Cursor
+    requires { ⌜ Holds (now seg) c ⌝ }
+    ensures { λ r. ⌜ Holds (now (seg .entry)) r × (place r ≡ place c) ⌝ }
+{
+    if c.have < 16 {
+        if c.next + 8 <= seg.len() {
+            return refill(seg, c);
+        }
+    }
+    c
+}
+
+// A symbol, as `crn_symbol_codec::draw` answers. It is looked up where the cursor is ready and the code short enough.
+pub fn draw(lookup: &[u32], sorted: &[u16], seg: &[u8], c: Cursor) -> Taken
+    requires { ⌜ Holds (now seg) c ⌝ ∗ ⌜ Usable (now lookup) (now sorted) ⌝ }
+    ensures { λ r. ⌜ ((ls : List ℕ) → Decodes ls (now (lookup .entry)) (now (sorted .entry)) → Takes (now (seg .entry)) (aSymbol ls) c r) ⌝ }
+{
+    if c.have < 16 {
+        return crn_symbol_codec::draw(lookup, sorted, seg, c);
+    }
+    let width = lookup[0] as u64;
+    let i = (c.bits >> (64 - width)) as usize;
+    let e = lookup[32 + i];
+    if e == 0 {
+        return crn_symbol_codec::draw(lookup, sorted, seg, c);
+    }
+    let l = (e % 32) as u64;
+    Taken::Value(
+        e / 32,
+        Cursor {
+            bits: c.bits << l,
+            have: c.have - l,
+            next: c.next,
+        },
+    )
+}
