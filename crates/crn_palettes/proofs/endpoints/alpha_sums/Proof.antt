@@ -9,6 +9,7 @@ use Rattle.crn_format.specs.Palettes.{summed, alphaSums}
 use Rattle.crn_symbol_codec.specs.Cursors.{place, Holds}
 use Rattle.crn_symbol_codec.specs.Decoders.{Decodes}
 use Rattle.crn_symbol_codec.specs.declared.Cursor.{Cursor}
+use Rattle.crn_symbol_codec.proofs.Taking.{takes-at}
 use Rattle.crn_symbol_codec.proofs.Serving.{taken-holds}
 use Rattle.crn_symbol_codec.specs.Taking.{refusalOf}
 use Rattle.crn_palettes.proofs.Leaving.{reaches-to, reaches-refused}
@@ -30,8 +31,11 @@ abbrev μ-loop : tie.MeasureT-loop
 loop-holds : tie.Need-loop-holds Inv-loop μ-loop
 loop-holds c = record { holds = search needs; sums = λ t d b. sums-none _ _ _ _ b }
 
+ready-requires : tie.Need-ready-requires Inv-loop μ-loop
+ready-requires c κs = c .before .loop .inv .holds
+
 draw-requires : tie.Need-draw-requires Inv-loop μ-loop
-draw-requires c κs = (c .before .loop .inv .holds, c .before .before .before .before .before .pre .1 .1 .decodes .usable)
+draw-requires c κs = (c .ready .ensures .0, c .before .before .before .before .before .before .pre .1 .1 .decodes .usable)
 
 enum-known-t : tie.Need-enum-known-t Inv-loop μ-loop
 enum-known-t c = search needs
@@ -47,9 +51,9 @@ place-requires c κs = search needs
 
 returns : tie.Need-returns Inv-loop μ-loop
 returns c =
-    let a = c .before .before .before .before .before .before .loop in
+    let a = c .before .before .before .before .before .before .before .loop in
     let e = c .before .before .enum-told .given .1 in
-    λ t d b. reaches-refused (sum-failed (a .inv .sums t d b) (alpha-sum t (a .i) (omega arith)) (c .before .before .before .before .draw .ensures t d) e) (c .before .refusal .ensures ∙ ap refusalOf e) (c .place .ensures)
+    λ t d b. reaches-refused (sum-failed (a .inv .sums t d b) (alpha-sum t (a .i) (omega arith)) (takes-at (c .before .before .before .before .before .ready .ensures .1) (c .before .before .before .before .draw .ensures t d)) e) (c .before .refusal .ensures ∙ ap refusalOf e) (c .place .ensures)
 
 element-copy-out-wrapped : tie.Need-element-copy-out-wrapped Inv-loop μ-loop
 element-copy-out-wrapped c = search needs
@@ -68,12 +72,12 @@ loop-less c = search needs
 
 loop-again : tie.Need-loop-again Inv-loop μ-loop
 loop-again c =
-    let a = c .before .before .before .before .before .before .before .loop in
-    let code = c .before .before .before .before .before .before .before .before .before .before .before .pre .1 .1 in
+    let a = c .before .before .before .before .before .before .before .before .loop in
+    let code = c .before .before .before .before .before .before .before .before .before .before .before .before .pre .1 .1 in
     let e = c .before .before .before .t .given .1 in
     record {
       holds = taken-holds (c .before .before .before .before .before .draw .ensures (code .code) (code .decodes)) e;
-      sums = λ t d b. sum-more (a .inv .sums t d b) (alpha-sum t (a .i) (omega arith)) (c .before .before .before .before .before .draw .ensures t d) e (c .wrapped .ensures);
+      sums = λ t d b. sum-more (a .inv .sums t d b) (alpha-sum t (a .i) (omega arith)) (takes-at (c .before .before .before .before .before .before .ready .ensures .1) (c .before .before .before .before .before .draw .ensures t d)) e (c .wrapped .ensures);
     }
 
 returns-2 : tie.Need-returns-2 Inv-loop μ-loop
@@ -88,6 +92,7 @@ alpha-sums-spec =
     Inv-loop
     μ-loop
     loop-holds
+    ready-requires
     draw-requires
     enum-known-t
     enum-told

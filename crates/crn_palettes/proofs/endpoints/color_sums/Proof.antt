@@ -8,6 +8,7 @@ use Rattle.crn_format.specs.Palettes.{summed, colorSums}
 use Rattle.crn_symbol_codec.specs.Cursors.{place, Holds}
 use Rattle.crn_symbol_codec.specs.Decoders.{Decodes}
 use Rattle.crn_symbol_codec.specs.declared.Cursor.{Cursor}
+use Rattle.crn_symbol_codec.proofs.Taking.{takes-at}
 use Rattle.crn_symbol_codec.proofs.Serving.{taken-holds}
 use Rattle.crn_symbol_codec.specs.Taking.{refusalOf}
 use Rattle.crn_palettes.specs.Endpoints.{Small}
@@ -36,8 +37,11 @@ loop-holds c = record { holds = c .before .before .before .before .before .pre .
 six-bits-requires : tie.Need-six-bits-requires Inv-loop μ-loop
 six-bits-requires c κs = search needs
 
+ready-requires : tie.Need-ready-requires Inv-loop μ-loop
+ready-requires c κs = c .before .before .loop .inv .holds
+
 draw-either-requires : tie.Need-draw-either-requires Inv-loop μ-loop
-draw-either-requires c κs = (c .before .before .loop .inv .holds, (c .before .before .before .before .before .before .before .before .pre .1 .1 .0, c .before .before .before .before .before .before .before .before .pre .1 .1 .1 .0))
+draw-either-requires c κs = (c .ready .ensures .0, (c .before .before .before .before .before .before .before .before .before .pre .1 .1 .0, c .before .before .before .before .before .before .before .before .before .pre .1 .1 .1 .0))
 
 enum-known-t : tie.Need-enum-known-t Inv-loop μ-loop
 enum-known-t c = search needs
@@ -49,14 +53,14 @@ refusal-requires : tie.Need-refusal-requires Inv-loop μ-loop
 refusal-requires c κs = search needs
 
 place-requires : tie.Need-place-requires Inv-loop μ-loop
-place-requires c κs = (c .before .before .before .before .before .before .loop .inv .holds, c .before .before .before .before .before .before .before .before .before .before .before .before .pre .1 .0)
+place-requires c κs = (c .before .before .before .before .before .before .before .loop .inv .holds, c .before .before .before .before .before .before .before .before .before .before .before .before .before .pre .1 .0)
 
 returns : tie.Need-returns Inv-loop μ-loop
 returns c =
-    let a = c .before .before .before .before .before .before .before .loop in
+    let a = c .before .before .before .before .before .before .before .before .loop in
     let e = c .before .before .enum-told .given .1 in (
       λ t d b.
-          reaches-refused (sum-failed (a .inv .sums t d b) (color-sum t (a .i) (c .before .before .before .before .before .six-bits .ensures) (c .before .before .before .before .before .before .loop-test .taken)) (c .before .before .before .before .draw-either .ensures _ _ (d .0) (d .1)) e)
+          reaches-refused (sum-failed (a .inv .sums t d b) (color-sum t (a .i) (c .before .before .before .before .before .before .six-bits .ensures) (c .before .before .before .before .before .before .before .loop-test .taken)) (takes-at (c .before .before .before .before .before .ready .ensures .1) (c .before .before .before .before .draw-either .ensures _ _ (d .0) (d .1))) e)
           (c .before .refusal .ensures ∙ ap refusalOf e)
           (c .place .ensures),
       a .inv .small,
@@ -79,14 +83,14 @@ loop-less c = search needs
 
 loop-again : tie.Need-loop-again Inv-loop μ-loop
 loop-again c =
-    let a = c .before .before .before .before .before .before .before .before .loop in
-    let pre = c .before .before .before .before .before .before .before .before .before .before .before .before .before .before .pre in
+    let a = c .before .before .before .before .before .before .before .before .before .loop in
+    let pre = c .before .before .before .before .before .before .before .before .before .before .before .before .before .before .before .pre in
     let e = c .before .before .before .t .given .1 in
-    let f = c .before .before .before .before .before .before .six-bits .ensures in
+    let f = c .before .before .before .before .before .before .before .six-bits .ensures in
     record {
       holds = taken-holds (c .before .before .before .before .before .draw-either .ensures _ _ (pre .1 .1 .0 .decodes) (pre .1 .1 .1 .0 .decodes)) e;
       small = small-more (a .values) (a .i) _ (a .inv .small) f (c .added .ensures);
-      sums = λ t d b. sum-more (a .inv .sums t d b) (color-sum t (a .i) f (c .before .before .before .before .before .before .before .loop-test .taken)) (c .before .before .before .before .before .draw-either .ensures _ _ (d .0) (d .1)) e (c .added .ensures);
+      sums = λ t d b. sum-more (a .inv .sums t d b) (color-sum t (a .i) f (c .before .before .before .before .before .before .before .before .loop-test .taken)) (takes-at (c .before .before .before .before .before .before .ready .ensures .1) (c .before .before .before .before .before .draw-either .ensures _ _ (d .0) (d .1))) e (c .added .ensures);
     }
 
 returns-2 : tie.Need-returns-2 Inv-loop μ-loop
@@ -102,6 +106,7 @@ color-sums-spec =
     μ-loop
     loop-holds
     six-bits-requires
+    ready-requires
     draw-either-requires
     enum-known-t
     enum-told

@@ -9,6 +9,7 @@ use Rattle.crn_format.specs.Palettes.{changed}
 use Rattle.crn_symbol_codec.specs.Cursors.{place, Holds}
 use Rattle.crn_symbol_codec.specs.Decoders.{Decodes}
 use Rattle.crn_symbol_codec.specs.declared.Cursor.{Cursor}
+use Rattle.crn_symbol_codec.proofs.Taking.{takes-at}
 use Rattle.crn_symbol_codec.proofs.Serving.{taken-holds}
 use Rattle.crn_symbol_codec.specs.Taking.{refusalOf}
 use Rattle.crn_palettes.specs.Selectors.{topOf}
@@ -32,8 +33,11 @@ abbrev μ-loop : tie.MeasureT-loop
 loop-holds : tie.Need-loop-holds Inv-loop μ-loop
 loop-holds c = record { holds = search needs; pairs = λ t d b. pairs-none _ _ _ _ _ b }
 
+ready-requires : tie.Need-ready-requires Inv-loop μ-loop
+ready-requires c κs = c .before .loop .inv .holds
+
 draw-requires : tie.Need-draw-requires Inv-loop μ-loop
-draw-requires c κs = (c .before .loop .inv .holds, c .before .before .before .before .before .pre .1 .1 .decodes .usable)
+draw-requires c κs = (c .ready .ensures .0, c .before .before .before .before .before .before .pre .1 .1 .decodes .usable)
 
 enum-known-t : tie.Need-enum-known-t Inv-loop μ-loop
 enum-known-t c = search needs
@@ -49,9 +53,9 @@ place-requires c κs = search needs
 
 returns : tie.Need-returns Inv-loop μ-loop
 returns c =
-    let a = c .before .before .before .before .before .before .loop in
+    let a = c .before .before .before .before .before .before .before .loop in
     let e = c .before .before .enum-told .given .1 in
-    λ t d b. reaches-refused (pair-failed (a .inv .pairs t d b) (c .before .before .before .before .before .loop-test .taken) (c .before .before .before .before .draw .ensures t d) e) (c .before .refusal .ensures ∙ ap refusalOf e) (c .place .ensures)
+    λ t d b. reaches-refused (pair-failed (a .inv .pairs t d b) (c .before .before .before .before .before .before .loop-test .taken) (takes-at (c .before .before .before .before .before .ready .ensures .1) (c .before .before .before .before .draw .ensures t d)) e) (c .before .refusal .ensures ∙ ap refusalOf e) (c .place .ensures)
 
 pairs-requires : tie.Need-pairs-requires Inv-loop μ-loop
 pairs-requires c κs = search needs
@@ -61,15 +65,15 @@ place-requires-2 c κs = search needs
 
 returns-2 : tie.Need-returns-2 Inv-loop μ-loop
 returns-2 c =
-    let a = c .before .before .before .before .before .before .before .before .loop in
+    let a = c .before .before .before .before .before .before .before .before .before .loop in
     λ t d b.
     reaches-refused
-    (pair-bad (a .inv .pairs t d b) (c .before .before .before .before .before .before .before .loop-test .taken) (c .before .before .before .before .before .before .draw .ensures t d) (c .before .before .before .before .t .given .1) (c .before .before .pairs .ensures) (c .before .if1 .taken))
+    (pair-bad (a .inv .pairs t d b) (c .before .before .before .before .before .before .before .before .loop-test .taken) (takes-at (c .before .before .before .before .before .before .before .ready .ensures .1) (c .before .before .before .before .before .before .draw .ensures t d)) (c .before .before .before .before .t .given .1) (c .before .before .pairs .ensures) (c .before .if1 .taken))
     refl
     (c .place2 .ensures)
 
 change-requires : tie.Need-change-requires Inv-loop μ-loop
-change-requires c κs = (c .before .before .before .before .before .before .before .loop-test .taken, rw (c .before .before .pairs .ensures) at (c .before .if1 .left))
+change-requires c κs = (c .before .before .before .before .before .before .before .before .loop-test .taken, rw (c .before .before .pairs .ensures) at (c .before .if1 .left))
 
 add-j : tie.Need-add-j Inv-loop μ-loop
 add-j c = search needs
@@ -79,13 +83,13 @@ loop-less c = search needs
 
 loop-again : tie.Need-loop-again Inv-loop μ-loop
 loop-again c =
-    let a = c .before .before .before .before .before .before .before .before .before .loop in
-    let code = c .before .before .before .before .before .before .before .before .before .before .before .before .before .pre .1 .1 in
+    let a = c .before .before .before .before .before .before .before .before .before .before .loop in
+    let code = c .before .before .before .before .before .before .before .before .before .before .before .before .before .before .pre .1 .1 in
     let e = c .before .before .before .before .before .t .given .1 in
     record {
       holds = taken-holds (c .before .before .before .before .before .before .before .draw .ensures (code .code) (code .decodes)) e;
       pairs = λ t d b.
-          pair-more (a .inv .pairs t d b) (c .before .before .before .before .before .before .before .before .loop-test .taken) (c .before .before .before .before .before .before .before .draw .ensures t d) e (c .before .before .before .pairs .ensures) (c .before .before .if1 .left) (c .change .ensures);
+          pair-more (a .inv .pairs t d b) (c .before .before .before .before .before .before .before .before .before .loop-test .taken) (takes-at (c .before .before .before .before .before .before .before .before .ready .ensures .1) (c .before .before .before .before .before .before .before .draw .ensures t d)) e (c .before .before .before .pairs .ensures) (c .before .before .if1 .left) (c .change .ensures);
     }
 
 returns-3 : tie.Need-returns-3 Inv-loop μ-loop
@@ -100,6 +104,7 @@ next-values-spec =
     Inv-loop
     μ-loop
     loop-holds
+    ready-requires
     draw-requires
     enum-known-t
     enum-told
