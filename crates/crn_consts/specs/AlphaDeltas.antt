@@ -5,7 +5,9 @@ use mathlib.Core.Path.{_≡_}
 use lib.Dec.{ltb}
 use Rattle.crn_format.specs.Choice.{pick}
 use Rattle.crn_format.specs.Palettes.{raised}
+use mathlib.Core.List.{List}
 use Rattle.crn_consts.specs.declared.Deltas.{Deltas}
+use Rattle.crn_consts.specs.Entries.{Pair}
 
 abbrev pub alphaDeltas : ℕ → Deltas
 alphaDeltas s =
@@ -16,3 +18,7 @@ pub record AlphaDeltas (s : ℕ) (r : Deltas) : Type 0 where
   pub rule : r ≡ alphaDeltas s
   pub first : r .first < 16
   pub second : r .second < 16
+
+-- a table has the deltas of every symbol
+pub record AllDeltas (table : List ℕ) : Type 0 where
+  pub each : (s : ℕ) (r : Deltas) → Pair table s r → AlphaDeltas s r

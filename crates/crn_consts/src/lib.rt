@@ -6,7 +6,7 @@ ghost use Rattle.crn_format.specs.Level.{tileCounts, tileAt};
 ghost use Rattle.crn_format.specs.Palettes.{colorFromLinear, alphaFromLinear};
 ghost use Rattle.crn_format.specs.Tables.{lengthOrder};
 ghost use Rattle.crn_consts.specs.Entries.{Entry, Pair};
-ghost use Rattle.crn_consts.specs.AlphaDeltas.{AlphaDeltas};
+ghost use Rattle.crn_consts.specs.AlphaDeltas.{AlphaDeltas, AllDeltas};
 
 mod tables;
 
@@ -79,9 +79,17 @@ fn pair(table: &[u8], at: u32) -> Deltas
     Deltas { first, second }
 }
 
+// The pairs of all alpha selector symbols. A constant is written out anew wherever it is named, so a caller keeps them for its many symbols.
+pub fn alpha_delta_pairs() -> [u8; 450]
+    ensures { λ r. ⌜ AllDeltas r ⌝ }
+{
+    tables::ALPHA_DELTA_PAIRS
+}
+
 // The deltas of an alpha selector symbol, 0 and 0 from 225 on.
-pub fn alpha_deltas(symbol: u32) -> Deltas
+pub fn alpha_deltas(pairs: &[u8], symbol: u32) -> Deltas
+    requires { ⌜ AllDeltas (now pairs) ⌝ }
     ensures { λ r. ⌜ AlphaDeltas symbol r ⌝ }
 {
-    pair(&tables::ALPHA_DELTA_PAIRS, symbol)
+    pair(pairs, symbol)
 }

@@ -8,6 +8,7 @@ use Rattle.crn_format.specs.Choice.{pick}
 use Rattle.crn_format.specs.Reading.{Reading}
 use Rattle.crn_format.specs.Palettes.{entries, changed, deltaCount, raised, colorFromLinear, alphaFromLinear, colorSelectorWords, alphaSelectorWords}
 use Rattle.crn_consts.specs.declared.Deltas.{Deltas}
+use Rattle.crn_consts.specs.AlphaDeltas.{AllDeltas}
 
 -- the greatest value
 abbrev pub topOf : Bool → ℕ
@@ -23,6 +24,11 @@ bitsOf alpha = pick alpha 3 2
 
 abbrev pub linearOf : Bool → List ℕ
 linearOf alpha = pick alpha alphaFromLinear colorFromLinear
+
+-- what is kept for the symbols: for alpha the constant table of all pairs; colour's deltas are computed
+abbrev pub Kept : Bool → List ℕ → Type 0
+Kept true pairs = AllDeltas pairs
+Kept false pairs = Unit {0}
 
 -- what symbol s adds to two values, each raised so that it is not negative
 pub record DeltasOf (alpha : Bool) (s : ℕ) (r : Deltas) : Type 0 where

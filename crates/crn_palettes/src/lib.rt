@@ -21,16 +21,16 @@ pub struct Ended {
     pub at: usize,
 }
 
-// Each palette has its decoder tables in arrays of its own: room for 13 first bits looked up, and for 8,192 symbols.
+// Each palette has its decoder tables in arrays of its own: room for 11 first bits looked up, and for 8,192 symbols.
 
 // Colour endpoints: six running sums an entry, by a table for five bits and one for six.
 pub fn color_endpoints(seg: &[u8], count: usize, out: &mut [u32]) -> Ended
     requires { ⌜ (length (now seg) < tooLong) × (count ≤ maxEntries) × (count ≤ length (now out)) ⌝ }
     ensures { λ r. ⌜ Fills (now (seg .entry)) (colorEndpoints count) (now (out .entry)) (now (out .exit)) r ⌝ }
 {
-    let mut lookup5 = [0u32; 8224];
+    let mut lookup5 = [0u32; 2080];
     let mut sorted5 = [0u16; 8192];
-    let mut lookup6 = [0u32; 8224];
+    let mut lookup6 = [0u32; 2080];
     let mut sorted6 = [0u16; 8192];
     match reading::receive_decoder(seg, start(seg), &mut lookup5, &mut sorted5) {
         Reached::To(c) => match reading::receive_decoder(seg, c, &mut lookup6, &mut sorted6) {
@@ -54,7 +54,7 @@ pub fn alpha_endpoints(seg: &[u8], count: usize, out: &mut [u16]) -> Ended
     requires { ⌜ (length (now seg) < tooLong) × (count ≤ maxEntries) × (count ≤ length (now out)) ⌝ }
     ensures { λ r. ⌜ Fills (now (seg .entry)) (alphaEndpoints count) (now (out .entry)) (now (out .exit)) r ⌝ }
 {
-    let mut lookup = [0u32; 8224];
+    let mut lookup = [0u32; 2080];
     let mut sorted = [0u16; 8192];
     match reading::receive_decoder(seg, start(seg), &mut lookup, &mut sorted) {
         Reached::To(c) => endpoints::alpha_words(&lookup, &sorted, seg, c, count, out),
@@ -70,7 +70,7 @@ pub fn color_selectors(seg: &[u8], count: usize, out: &mut [u32]) -> Ended
     requires { ⌜ (length (now seg) < tooLong) × (count ≤ maxEntries) × (count ≤ length (now out)) ⌝ }
     ensures { λ r. ⌜ Fills (now (seg .entry)) (colorSelectors count) (now (out .entry)) (now (out .exit)) r ⌝ }
 {
-    let mut lookup = [0u32; 8224];
+    let mut lookup = [0u32; 2080];
     let mut sorted = [0u16; 8192];
     match reading::receive_decoder(seg, start(seg), &mut lookup, &mut sorted) {
         Reached::To(c) => selectors::color_words(&lookup, &sorted, seg, c, count, out),
@@ -86,7 +86,7 @@ pub fn alpha_selectors(seg: &[u8], count: usize, out: &mut [u16]) -> Ended
     requires { ⌜ (length (now seg) < tooLong) × (count ≤ maxEntries) × (3 * count ≤ length (now out)) ⌝ }
     ensures { λ r. ⌜ Fills (now (seg .entry)) (alphaSelectors count) (now (out .entry)) (now (out .exit)) r ⌝ }
 {
-    let mut lookup = [0u32; 8224];
+    let mut lookup = [0u32; 2080];
     let mut sorted = [0u16; 8192];
     match reading::receive_decoder(seg, start(seg), &mut lookup, &mut sorted) {
         Reached::To(c) => selectors::alpha_words(&lookup, &sorted, seg, c, count, out),

@@ -11,7 +11,7 @@ ghost use Rattle.crn_symbol_codec.specs.Decoders.{Decodes};
 ghost use Rattle.crn_static_huffman_data_model.specs.Parts.{SomeCode};
 ghost use Rattle.crn_palettes.specs.Filling.{FillsFrom};
 ghost use Rattle.crn_palettes.specs.Reaching.{Reaches};
-ghost use Rattle.crn_palettes.specs.Selectors.{topOf, pairsOf, bitsOf, linearOf, DeltasOf, threeWords, colorEntries, alphaEntries};
+ghost use Rattle.crn_palettes.specs.Selectors.{topOf, pairsOf, Kept, bitsOf, linearOf, DeltasOf, threeWords, colorEntries, alphaEntries};
 use crate::Ended;
 use crate::clearing::clear16;
 use crate::clearing::clear32;
@@ -38,12 +38,12 @@ fn pairs(alpha: bool) -> u32
 }
 
 // What a symbol adds to two values, raised so that it is not negative.
-fn deltas(alpha: bool, symbol: u32) -> Deltas
-    requires { ⌜ symbol < pairsOf alpha ⌝ }
+fn deltas(alpha: bool, kept: &[u8], symbol: u32) -> Deltas
+    requires { ⌜ symbol < pairsOf alpha ⌝ ∗ ⌜ Kept alpha (now kept) ⌝ }
     ensures { λ r. ⌜ DeltasOf alpha symbol r ⌝ }
 {
     if alpha {
-        return crn_consts::alpha_deltas(symbol);
+        return crn_consts::alpha_deltas(kept, symbol);
     }
     Deltas {
         first: symbol % 7 + 1,
@@ -64,11 +64,11 @@ fn moved(alpha: bool, value: u8, delta: u32) -> u8
 }
 
 // A symbol changes the j-th pair of values.
-fn change(alpha: bool, j: usize, symbol: u32, values: &mut [u8; 16])
-    requires { ⌜ (j < 8) × (symbol < pairsOf alpha) ⌝ }
+fn change(alpha: bool, kept: &[u8], j: usize, symbol: u32, values: &mut [u8; 16])
+    requires { ⌜ (j < 8) × (symbol < pairsOf alpha) ⌝ ∗ ⌜ Kept alpha (now kept) ⌝ }
     ensures { λ _. ⌜ now (values .exit) ≡ pairMoved (topOf alpha) j symbol (now (values .entry)) ⌝ }
 {
-    let by = deltas(alpha, symbol);
+    let by = deltas(alpha, kept, symbol);
     let first = moved(alpha, values[2 * j], by.first);
     let second = moved(alpha, values[2 * j + 1], by.second);
     values[2 * j] = first;
@@ -78,13 +78,14 @@ fn change(alpha: bool, j: usize, symbol: u32, values: &mut [u8; 16])
 // Eight symbols, one for each pair; refusal 9 from 49 (colour) or 225 (alpha) upward.
 fn next_values(
     alpha: bool,
+    kept: &[u8],
     lookup: &[u32],
     sorted: &[u16],
     seg: &[u8],
     c: Cursor,
     values: &mut [u8; 16],
 ) -> Reached
-    requires { ⌜ Holds (now seg) c ⌝ ∗ ⌜ length (now seg) < tooLong ⌝ ∗ ⌜ SomeCode (now lookup) (now sorted) ⌝ }
+    requires { ⌜ Holds (now seg) c ⌝ ∗ ⌜ length (now seg) < tooLong ⌝ ∗ ⌜ SomeCode (now lookup) (now sorted) ⌝ ∗ ⌜ Kept alpha (now kept) ⌝ }
     ensures { λ r. ⌜ ((t : List ℕ) → Decodes t (now (lookup .entry)) (now (sorted .entry)) → (b : ℕ) → Reaches (now (seg .entry)) (changed (topOf alpha) t 8 0 (now (values .entry))) c b (now (values .exit)) r) ⌝ }
 {
     let mut at = c;
@@ -98,7 +99,7 @@ fn next_values(
         if pairs(alpha) <= s {
             return Reached::Refused(9, place(seg, at));
         }
-        change(alpha, j, s, values);
+        change(alpha, kept, j, s, values);
         at = d;
         j += 1;
     }
@@ -175,7 +176,7 @@ pub fn color_words(
     let mut at = c;
     let mut i: usize = 0;
     while i < count {
-        match next_values(false, lookup, sorted, seg, at, &mut values) {
+        match next_values(false, b"", lookup, sorted, seg, at, &mut values) {
             Reached::To(d) => {
                 out[i] = color_word(&values);
                 at = d;
@@ -201,12 +202,13 @@ pub fn alpha_words(
     requires { ⌜ Holds (now seg) c ⌝ ∗ ⌜ length (now seg) < tooLong ⌝ ∗ ⌜ SomeCode (now lookup) (now sorted) ⌝ ∗ ⌜ 3 * count ≤ length (now out) ⌝ }
     ensures { λ r. ⌜ ((t : List ℕ) → Decodes t (now (lookup .entry)) (now (sorted .entry)) → FillsFrom (now (seg .entry)) c (alphaEntries t count) (now (out .entry)) (now (out .exit)) r) ⌝ }
 {
+    let kept = crn_consts::alpha_delta_pairs();
     let mut values = [0u8; 16];
     let mut at = c;
     let mut i: usize = 0;
     let mut k: usize = 0;
     while i < count {
-        match next_values(true, lookup, sorted, seg, at, &mut values) {
+        match next_values(true, &kept, lookup, sorted, seg, at, &mut values) {
             Reached::To(d) => {
                 put_three(out, k, packed(true, &values));
                 at = d;

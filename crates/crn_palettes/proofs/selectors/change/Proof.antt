@@ -48,7 +48,7 @@ element-write-values-2 c = search needs
 
 returns : tie.Need-returns
 returns c =
-    let a = c .before .before .before .before .before .args in
+    let a = c .before .before .before .before .before .before .args in
     let vs = a .values .now in
     let d = c .before .before .before .before .deltas .ensures in
     ap₂ (λ x y. set (set vs (2 * a .j) x) (2 * a .j + 1) y)

@@ -11,16 +11,19 @@ use Rattle.crn_palettes.proofs.selectors.color_words.Statement.{stateme
 use Rattle.crn_palettes.proofs.selectors.color_words.Tie as tie
 
 abbrev Inv-loop : tie.InvT-loop
-Inv-loop lookup sorted seg count out₀ values₀ at₀ i₀ out values at i = Filling (λ (t : List ℕ). Decodes t lookup sorted) seg (λ t. changed 3 t 8 0) colorSelectorWords count out₀ values₀ at₀ i i out values at
+Inv-loop lookup sorted seg count out₀ values₀ at₀ i₀ none out values at i = Filling (λ (t : List ℕ). Decodes t lookup sorted) seg (λ t. changed 3 t 8 0) colorSelectorWords count out₀ values₀ at₀ i i out values at
 
 abbrev μ-loop : tie.MeasureT-loop
-μ-loop lookup sorted seg count out₀ values₀ at₀ i₀ out values at i = count - i
+μ-loop lookup sorted seg count out₀ values₀ at₀ i₀ none out values at i = count - i
 
 loop-holds : tie.Need-loop-holds Inv-loop μ-loop
 loop-holds c = filling-none _ _ _ _ _ _ _ _ (c .before .before .before .before .pre .0)
 
+slice-aggregate-next-values : tie.Need-slice-aggregate-next-values Inv-loop μ-loop
+slice-aggregate-next-values c = search needs
+
 next-values-requires : tie.Need-next-values-requires Inv-loop μ-loop
-next-values-requires c κs = (c .before .before .loop .inv .holds, (c .before .before .before .before .before .before .before .pre .1 .0, c .before .before .before .before .before .before .before .pre .1 .1 .0))
+next-values-requires c κs = (c .before .before .before .loop .inv .holds, (c .before .before .before .before .before .before .before .before .pre .1 .0, (c .before .before .before .before .before .before .before .before .pre .1 .1 .0, tt)))
 
 enum-known-d : tie.Need-enum-known-d Inv-loop μ-loop
 enum-known-d c = search needs
@@ -32,7 +35,7 @@ mul-out : tie.Need-mul-out Inv-loop μ-loop
 mul-out c = search needs
 
 slice-write-out : tie.Need-slice-write-out Inv-loop μ-loop
-slice-write-out c = omega (arith, c .before .before .before .before .before .before .before .before .loop .inv .written .long)
+slice-write-out c = omega (arith, c .before .before .before .before .before .before .before .before .before .loop .inv .written .long)
 
 add-i : tie.Need-add-i Inv-loop μ-loop
 add-i c = search needs
@@ -42,8 +45,8 @@ loop-less c = search needs
 
 loop-again : tie.Need-loop-again Inv-loop μ-loop
 loop-again c =
-    let a = c .before .before .before .before .before .before .before .before .loop in
-    filling-more (a .inv) (c .before .before .before .before .before .before .before .loop-test .taken) (c .before .before .before .before .before .next-values .ensures) (c .before .before .before .before .before .before .before .before .before .before .before .before .before .pre .1 .1 .0 .decodes) (c .before .before .before .d .given .1) (c .color-word .ensures) (omega (arith, a .inv .written .long)) refl
+    let a = c .before .before .before .before .before .before .before .before .before .loop in
+    filling-more (a .inv) (c .before .before .before .before .before .before .before .before .loop-test .taken) (c .before .before .before .before .before .next-values .ensures) (c .before .before .before .before .before .before .before .before .before .before .before .before .before .before .pre .1 .1 .0 .decodes) (c .before .before .before .d .given .1) (c .color-word .ensures) (omega (arith, a .inv .written .long)) refl
 
 enum-known-refusal : tie.Need-enum-known-refusal Inv-loop μ-loop
 enum-known-refusal c = search needs
@@ -56,8 +59,8 @@ same-length c = search needs
 
 returns : tie.Need-returns Inv-loop μ-loop
 returns c =
-    let a = c .before .before .before .before .before .before .before .before .before .before .loop in
-    filling-refused (a .inv) (c .before .before .before .before .before .before .before .before .before .loop-test .taken) (c .before .before .before .before .before .before .before .next-values .ensures) (c .before .before .before .before .before .refusal .given .1) (c .before .before .clear32 .ensures)
+    let a = c .before .before .before .before .before .before .before .before .before .before .before .loop in
+    filling-refused (a .inv) (c .before .before .before .before .before .before .before .before .before .before .loop-test .taken) (c .before .before .before .before .before .before .before .next-values .ensures) (c .before .before .before .before .before .refusal .given .1) (c .before .before .clear32 .ensures)
 
 same-length-2 : tie.Need-same-length-2 Inv-loop μ-loop
 same-length-2 c = c .before .loop .inv .written .long
@@ -72,6 +75,7 @@ color-words-spec =
     Inv-loop
     μ-loop
     loop-holds
+    slice-aggregate-next-values
     next-values-requires
     enum-known-d
     color-word-requires

@@ -25,10 +25,10 @@ record State (alpha : Bool) (lookup sorted seg before : List ℕ) (c : Cursor) (
   pairs : (t : List ℕ) → Decodes t lookup sorted → (b : ℕ) → Changed seg (topOf alpha) t j values at (run (fromBits seg) (changed (topOf alpha) t 8 0 before) (spot (place c) b))
 
 abbrev Inv-loop : tie.InvT-loop
-Inv-loop alpha lookup sorted seg values₀ at₀ j₀ values at j = State alpha lookup sorted seg values₀ at₀ values at j
+Inv-loop alpha kept lookup sorted seg values₀ at₀ j₀ values at j = State alpha lookup sorted seg values₀ at₀ values at j
 
 abbrev μ-loop : tie.MeasureT-loop
-μ-loop alpha lookup sorted seg values₀ at₀ j₀ values at j = 8 - j
+μ-loop alpha kept lookup sorted seg values₀ at₀ j₀ values at j = 8 - j
 
 loop-holds : tie.Need-loop-holds Inv-loop μ-loop
 loop-holds c = record { holds = search needs; pairs = λ t d b. pairs-none _ _ _ _ _ b }
@@ -37,7 +37,7 @@ ready-requires : tie.Need-ready-requires Inv-loop μ-loop
 ready-requires c κs = c .before .loop .inv .holds
 
 draw-requires : tie.Need-draw-requires Inv-loop μ-loop
-draw-requires c κs = (c .ready .ensures .0, c .before .before .before .before .before .before .pre .1 .1 .decodes .usable)
+draw-requires c κs = (c .ready .ensures .0, c .before .before .before .before .before .before .before .pre .1 .1 .0 .decodes .usable)
 
 enum-known-t : tie.Need-enum-known-t Inv-loop μ-loop
 enum-known-t c = search needs
@@ -73,7 +73,7 @@ returns-2 c =
     (c .place2 .ensures)
 
 change-requires : tie.Need-change-requires Inv-loop μ-loop
-change-requires c κs = (c .before .before .before .before .before .before .before .before .loop-test .taken, rw (c .before .before .pairs .ensures) at (c .before .if1 .left))
+change-requires c κs = ((c .before .before .before .before .before .before .before .before .loop-test .taken, rw (c .before .before .pairs .ensures) at (c .before .if1 .left)), c .before .before .before .before .before .before .before .before .before .before .before .before .before .before .pre .1 .1 .1)
 
 add-j : tie.Need-add-j Inv-loop μ-loop
 add-j c = search needs
@@ -84,7 +84,7 @@ loop-less c = search needs
 loop-again : tie.Need-loop-again Inv-loop μ-loop
 loop-again c =
     let a = c .before .before .before .before .before .before .before .before .before .before .loop in
-    let code = c .before .before .before .before .before .before .before .before .before .before .before .before .before .before .pre .1 .1 in
+    let code = c .before .before .before .before .before .before .before .before .before .before .before .before .before .before .before .pre .1 .1 .0 in
     let e = c .before .before .before .before .before .t .given .1 in
     record {
       holds = taken-holds (c .before .before .before .before .before .before .before .draw .ensures (code .code) (code .decodes)) e;
