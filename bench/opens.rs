@@ -63,11 +63,11 @@ fn timed(repeats: usize, mut side: impl FnMut()) -> f64 {
 
 fn main() {
     let room = std::env::args().nth(1).expect("the folder with the files");
-    println!("| format | entries a palette | bytes of the palettes and tables | the Rust, µs | proved, µs | times as fast | least of a file |");
-    println!("|---|---|---|---|---|---|---|");
-    for format in ["DXT1", "DXT5", "DXT5A", "DXN"] {
+    println!("| codes | format | entries a palette | bytes of the palettes and tables | the Rust, µs | proved, µs | times as fast | least of a file |");
+    println!("|---|---|---|---|---|---|---|---|");
+    for (codes, format) in ["fitted", "any"].iter().flat_map(|c| ["DXT1", "DXT5", "DXT5A", "DXN"].map(|f| (c, f))) {
         for entries in [50usize, 500, 8000] {
-            let files: Vec<Vec<u8>> = (0..8).map(|n| std::fs::read(format!("{room}/{format}-{entries}-{n}.crn")).unwrap()).collect();
+            let files: Vec<Vec<u8>> = (0..8).map(|n| std::fs::read(format!("{room}/{codes}-{format}-{entries}-{n}.crn")).unwrap()).collect();
             let mut lent = Lent { ce: vec![0; entries], cs: vec![0; entries], ae: vec![0; entries], al: vec![0; 3 * entries] };
             let (mut sums, mut bytes, mut least) = ([0.0; 2], 0, f64::MAX);
             for file in &files {
@@ -84,7 +84,7 @@ fn main() {
                 least = least.min(took[0] / took[1]);
             }
             let n = files.len() as f64;
-            println!("| {format} | {entries} | {} | {:.1} | {:.1} | {:.2} | {:.2} |", bytes / files.len(), sums[0] / n * 1e6, sums[1] / n * 1e6, sums[0] / sums[1], least);
+            println!("| {codes} | {format} | {entries} | {} | {:.1} | {:.1} | {:.2} | {:.2} |", bytes / files.len(), sums[0] / n * 1e6, sums[1] / n * 1e6, sums[0] / sums[1], least);
         }
     }
 }
