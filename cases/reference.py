@@ -1,7 +1,8 @@
 """A plain reading of document 01, written from its text alone: neither from the proved code nor from the Rust.
 
-It makes the answers that the stored cases are held to, and stands beside the Rust in the comparisons at scale. Speed does not matter here;
+It makes the answers that the stored cases are held to, and stands beside the Rust in the comparisons at scale. Speed matters little here;
 that each line can be held against a sentence of the document does. A refusal is an exception with its number and the bit that it names."""
+import re
 
 LENGTH_ORDER = [17, 18, 19, 20, 0, 8, 7, 9, 6, 10, 5, 11, 4, 12, 3, 13, 2, 14, 1, 15, 16]
 
@@ -217,6 +218,133 @@ def opening(file, lent):
     return 0, 0, h, tables, buffers
 
 
+# ------------------------------------------------------------------ a level
+
+TILE_COUNTS = [1, 2, 2, 3, 3, 3, 3, 4]
+TILES = ['0000', '0011', '0101', '0012', '1200', '0102', '1020', '0123']      # at left-top, right-top, left-bottom, right-bottom
+
+
+def handed(header, tables):
+    """The record as a level takes it: the header's fields, and each table's count beside its 8,192 lengths. All zero where opening refused."""
+    if header is None:
+        header, tables = header_of(bytes(74)), {t: [] for t in TABLES}
+    return header, {t: (len(tables[t]), tables[t] + [0] * (8192 - len(tables[t]))) for t in TABLES}
+
+
+class Grid:
+    """A level's blocks: face f at f x distance, rows a pitch apart."""
+
+    def __init__(self, header, level, pitch, distance):
+        self.faces, self.pitch, self.distance = header['faces'], pitch, distance
+        self.columns, self.rows = [(max(1, header[side] >> level) + 3) // 4 for side in ('width', 'height')]
+        self.bytes = 8 * len(planes_of(header['format']))
+
+    def reach(self):
+        return (self.faces - 1) * self.distance + (self.rows - 1) * self.pitch + self.columns * self.bytes
+
+    def places(self):
+        """(face, row, column, first byte) of every block."""
+        for f in range(self.faces):
+            for y in range(self.rows):
+                for x in range(self.columns):
+                    yield f, y, x, f * self.distance + y * self.pitch + x * self.bytes
+
+
+def level_segment(header, file, level):
+    return header['offsets'][level], header['offsets'][level + 1] if level + 1 < header['levels'] else len(file)
+
+
+def before_the_first_draw(record, file, lent, level, pitch, distance, room):
+    """The refusal, or 0: "2, 6, 10, 4, 5, 11, 12"."""
+    h, tables = record
+    if not within_limits(h):
+        return 2
+    if any(count > 8192 or count > 0 and not is_code(lengths[:count]) for count, lengths in tables.values()):
+        return 6
+    if level >= h['levels']:
+        return 10
+    start, end = level_segment(h, file, level)
+    if start >= end or end > len(file) or len(file) > 0xffffffff:
+        return 4
+    if any(len(lent[p]) < h[p][2] * (3 if p == 'as' else 1) for p in PARTS if p[0] in planes_of(h['format'])):
+        return 5
+    grid = Grid(h, level, pitch, distance)
+    if pitch % 4 or distance % 4 or pitch < grid.columns * grid.bytes or distance < grid.rows * pitch:
+        return 11
+    return 12 if room < grid.reach() else 0
+
+
+class Index:
+    """A running palette index."""
+
+    def __init__(self, lengths, size):
+        self.lengths, self.size, self.value = lengths, size, 0
+
+    def step(self, reader, judged):
+        delta, at = reader.draw(self.lengths)
+        self.value += delta
+        if self.value >= self.size:
+            self.value -= self.size
+        if judged and self.value >= self.size:
+            raise Refusal(14, at)
+        return self.value
+
+
+def half_block(plane, lent, endpoint, selector):
+    if plane == 'c':
+        return lent['ce'][endpoint].to_bytes(4, 'little') + lent['cs'][selector].to_bytes(4, 'little')
+    return b''.join(word.to_bytes(2, 'little') for word in [lent['ae'][endpoint]] + lent['as'][3 * selector:3 * selector + 3])
+
+
+def blocks_of(reader, record, lent, grid):
+    """(face, row, column) -> the block's bytes."""
+    h, codes = record[0], {t: lengths[:count] for t, (count, lengths) in record[1].items()}
+    planes = planes_of(h['format'])
+    endpoints = [Index(codes[p + 'e'], h[p + 'e'][2]) for p in planes]
+    selectors = [Index(codes[p + 's'], h[p + 's'][2]) for p in planes]
+    pending, blocks = [], {}
+    for face in range(grid.faces):
+        for chunk_row in range((grid.rows + 1) // 2):
+            row = range((grid.columns + 1) // 2)
+            for chunk_column in row if chunk_row % 2 == 0 else reversed(row):
+                if not pending:
+                    symbol, at = reader.draw(codes['chunk'])
+                    if symbol >= 1024:
+                        raise Refusal(13, at)
+                    pending = [symbol % 8, symbol // 8 % 8, symbol // 64 % 8]
+                encoding = pending.pop(0)
+                tiles = [[index.step(reader, True) for _ in range(TILE_COUNTS[encoding])] for index in endpoints]
+                for position in range(4):
+                    y, x = 2 * chunk_row + position // 2, 2 * chunk_column + position % 2
+                    inside = y < grid.rows and x < grid.columns
+                    chosen = [index.step(reader, inside) for index in selectors]
+                    if inside:
+                        tile = int(TILES[encoding][position])
+                        blocks[face, y, x] = b''.join(half_block(p, lent, tiles[k][tile], chosen[k]) for k, p in enumerate(planes))
+    return blocks
+
+
+def unpacking(record, file, lent, level, pitch, distance, budget, destination):
+    """(refusal, symbols, cut-outs, what is left of the budget, bit, destination)."""
+    number = before_the_first_draw(record, file, lent, level, pitch, distance, len(destination))
+    if number:
+        return number, 0, 0, budget, 0, destination
+    h, bit, cutouts, out = record[0], 0, 0, bytearray(destination)
+    grid = Grid(h, level, pitch, distance)
+    start, end = level_segment(h, file, level)
+    reader = Reader(file[start:end], budget=budget)
+    try:
+        blocks = blocks_of(reader, record, lent, grid)
+    except Refusal as no:
+        number, bit, blocks = no.number, no.bit, None
+    for f, y, x, at in grid.places():
+        block = blocks[f, y, x] if blocks else bytes(grid.bytes)
+        out[at:at + grid.bytes] = block
+        if h['format'] == 0 and int.from_bytes(block[:2], 'little') < int.from_bytes(block[2:4], 'little'):
+            cutouts += 1
+    return number, reader.drawn, cutouts, reader.budget, bit, bytes(out)
+
+
 # ------------------------------------------------------------------ bytes and hashes
 
 def palette_bytes(buffers):
@@ -233,9 +361,14 @@ def record_bytes(header, tables):
     out = b''.join(n.to_bytes(4, 'little') for n in numbers)
     return out + b''.join(len(tables[t]).to_bytes(4, 'little') + bytes(tables[t]) + bytes(8192 - len(tables[t])) for t in TABLES)
 
+
 def fnv(data):
-    """FNV-1a, 64 bits, in 16 hexadecimal digits."""
-    h = 0xcbf29ce484222325
-    for byte in data:
-        h = (h ^ byte) * 0x100000001b3 & 0xffffffffffffffff
+    """FNV-1a, 64 bits, in 16 hexadecimal digits. A run of zero bytes is a power of the factor."""
+    h, factor, all_bits = 0xcbf29ce484222325, 0x100000001b3, 0xffffffffffffffff
+    for run in re.findall(rb'\0+|[^\0]+', data, re.DOTALL):
+        if run[0] == 0:
+            h = h * pow(factor, len(run), all_bits + 1) & all_bits
+            continue
+        for byte in run:
+            h = (h ^ byte) * factor & all_bits
     return format(h, '016x')
