@@ -1,10 +1,10 @@
-"""Files for the cases of crn_cases, and what the Rust makes of them. SHARED is the folder that has oracle/ (the generator of CRN files, and the Rust as
-a command) and docs/src (the Rust)."""
+"""Cases of crn_cases: their bytes and lines (docs/CASES.md), the files in them, and what the Rust makes of these. SHARED is the folder that has oracle/ (the
+generator of CRN files, and the Rust as a command) and docs/src (the Rust)."""
 import collections
 import glob
 import hashlib
 import os
-import random
+import struct
 import subprocess
 import sys
 import tempfile
@@ -14,6 +14,58 @@ import reference
 here = os.path.dirname(os.path.abspath(__file__))
 RUST_PARTS = dict(zip(reference.PARTS, ['color_endpoints', 'color_selectors', 'alpha_endpoints', 'alpha_selectors']))
 RUST_TABLES = dict(zip(reference.TABLES, ['chunk', 'color_endpoint_delta', 'color_selector_delta', 'alpha_endpoint_delta', 'alpha_selector_delta']))
+
+
+# a file opened with lent words by part, all of them the fill byte; edits (field, index, value); calls (level, pitch, distance, budget, destination length)
+Case = collections.namedtuple('Case', 'file lent fill edits calls')
+
+
+def bytes_of(cases):
+    out = [b'CASE', struct.pack('<I', len(cases))]
+    for c in cases:
+        out += [struct.pack('<I', len(c.file)), c.file, struct.pack('<4I', *(len(c.lent[p]) for p in reference.PARTS)), bytes([c.fill, len(c.edits)])]
+        out += [struct.pack('<BII', *e) for e in c.edits] + [bytes([len(c.calls)])] + [struct.pack('<IQQQI', *call) for call in c.calls]
+    return b''.join(out)
+
+
+def edited(record, edits):
+    """The record with the edits of docs/CASES.md."""
+    header = {name: list(v) if isinstance(v, list) else v for name, v in record[0].items()}
+    tables = {t: (count, list(lengths)) for t, (count, lengths) in record[1].items()}
+    for field, index, value in edits:
+        if 1 <= field <= 5:
+            header[['width', 'height', 'levels', 'faces', 'format'][field - 1]] = value
+        elif 6 <= field <= 9:
+            header[reference.PARTS[field - 6]][2] = value
+        elif field == 10 and index < 13:
+            header['offsets'][index] = value
+        elif 11 <= field <= 15:
+            tables[reference.TABLES[field - 11]] = value, tables[reference.TABLES[field - 11]][1]
+        elif 16 <= field <= 20 and index < 8192:
+            tables[reference.TABLES[field - 16]][1][index] = value % 256
+    return header, tables
+
+
+def answers_of(case):
+    """What reference.py says of the opening, and of each call."""
+    opened = reference.opening(case.file, case.lent)
+    record = edited(reference.handed(opened[2], opened[3]), case.edits) if case.calls else None
+    return opened, [reference.unpacking(record, case.file, opened[4], *call[:4], bytes([case.fill]) * call[4]) for call in case.calls]
+
+
+def lines_of(opened, levels):
+    number, _, header, tables, buffers = opened
+    lines = ['open %d %s %s' % (number, reference.fnv(reference.palette_bytes(buffers)), reference.fnv(reference.record_bytes(header, tables)))]
+    return lines + ['level %d %d %d %d %s' % (no, symbols, cutouts, left, reference.fnv(dst)) for no, symbols, cutouts, left, _, dst in levels]
+
+
+def held_to_the_program(cases, lines):
+    """Runs target/bin/crn_cases, as `rt check crn_cases` leaves it, on the cases, and says where it writes other lines. True where it does not."""
+    program = os.path.join(here, '..', 'target', 'bin', 'crn_cases')
+    said = subprocess.run([program], input=bytes_of(cases), stdout=subprocess.PIPE, check=True).stdout.decode().splitlines()
+    wrong = [k for k, (a, b) in enumerate(zip(said, lines)) if a != b] + list(range(len(said), len(lines)))
+    print('%d lines of the proved program, %d of them not as document 01 says%s' % (len(said), len(wrong), ': ' + str(wrong[:5]) if wrong else ''))
+    return not wrong and len(said) == len(lines)
 
 
 def generator(shared):
@@ -58,19 +110,26 @@ def damaged(rng, file):
     return put(file, at, file[at] ^ 1 << rng.randrange(8), 1)
 
 
-def rust_opens(shared, files):
-    """What the Rust's opening answers for each file: a dict of its fields, 'refused' or 'panicked'."""
+def rust_says(shared, commands):
+    """The Rust's line for each command: (word, file, the words after it)."""
     with tempfile.TemporaryDirectory() as room:
         subprocess.run(['sh', os.path.join(shared, 'oracle', 'build.sh'), room], check=True)
-        paths = []
-        for k, file in enumerate(files):
-            paths.append(os.path.join(room, '%d.crn' % k))
-            with open(paths[-1], 'wb') as out:
-                out.write(file)
+        paths, lines = {}, []
+        for word, file, rest in commands:
+            if file not in paths:
+                paths[file] = os.path.join(room, '%d.crn' % len(paths))
+                with open(paths[file], 'wb') as out:
+                    out.write(file)
+            lines.append('%s %s %s\n' % (word, paths[file], rest))
         listed = os.path.join(room, 'list')
         with open(listed, 'w') as out:
-            out.write(''.join('open %s\n' % p for p in paths))
-        said = subprocess.run([os.path.join(room, 'oracle'), 'batch', listed], stdout=subprocess.PIPE, check=True).stdout.decode().splitlines()
+            out.write(''.join(lines))
+        return subprocess.run([os.path.join(room, 'oracle'), 'batch', listed], stdout=subprocess.PIPE, check=True).stdout.decode().splitlines()
+
+
+def rust_opens(shared, files):
+    """What the Rust's opening answers for each file: a dict of its fields, 'refused' or 'panicked'."""
+    said = rust_says(shared, [('open', file, '') for file in files])
     return [dict(w.split('=', 1) for w in line.split()[2:]) if line.startswith('open ok') else line.split()[1] for line in said]
 
 
@@ -101,7 +160,7 @@ def why_not(file, answer):
     return None
 
 
-def compare(shared, cases):
+def compare_openings(shared, cases):
     """Holds the answers of reference.opening to the Rust's. `cases`: (file, answer). Prints a table; answers how many differ by no listed row."""
     rust, tally, faults = rust_opens(shared, [file for file, _ in cases]), collections.Counter(), 0
     for (file, answer), theirs in zip(cases, rust):
@@ -116,14 +175,16 @@ def compare(shared, cases):
             same = same_opening(answer, theirs)
             tally['opened by both, ' + ('the same' if same else 'DIFFERENT')] += 1
             faults += not same
+    say(tally)
+    return faults
+
+
+def say(tally):
     for what, times in sorted(tally.items()):
         print('%6d  %s' % (times, what))
-    return faults
 
 
 def shown_differences():
     """The inputs of docs/DIFFERENCES.md, by name."""
     return [(os.path.basename(p), open(p, 'rb').read()) for p in sorted(glob.glob(os.path.join(here, '..', 'differences', '*.crn')))]
 
-
-__all__ = ['generator', 'exact', 'put', 'small_file', 'damaged', 'compare', 'shown_differences', 'random']

@@ -1,24 +1,15 @@
 #!/usr/bin/env python3
-"""opens.py SHARED [COUNT]: the cases of the program crn_cases.
-
-Without COUNT it makes crates/crn_cases/stdin and stdout anew: the expected answers are reference.py's, and the palettes and tables of every file that the Rust
-opens too are compared with the Rust's. With COUNT it is the comparison at scale, outside the gate: it makes COUNT files, whole and damaged, runs them through the
-proved program (target/bin/crn_cases, as `rt check crn_cases` leaves it), through reference.py and through the Rust, and says where they differ."""
+"""opens.py SHARED COUNT: COUNT files, whole and damaged, opened by the proved program (target/bin/crn_cases, as `rt check crn_cases` leaves it), by reference.py and by
+the Rust, and where they differ. stored.py has the gate's cases of opening from here."""
 import os
 import random
-import struct
-import subprocess
 import sys
 
 import files
 import reference
 
-shared = os.path.abspath(sys.argv[1])
-mkcrn = files.generator(shared)
-here = os.path.dirname(os.path.abspath(__file__))
 
-
-def stored():
+def stored(mkcrn):
     """(file, lent) for the gate: every format, one and six faces, unused planes, palettes exact, longer and one short, and every refusal from 1 to 9."""
     rng = random.Random(20261115)
     base = []
@@ -46,7 +37,7 @@ def stored():
             yield files.put(file, at, value, width), files.exact(file, 1)
 
 
-def scaled(count):
+def scaled(mkcrn, count):
     rng = random.Random(count)
     for k in range(count):
         file, _ = mkcrn.make(rng.getrandbits(40), width=rng.randint(1, 40), height=rng.randint(1, 40), levels=rng.choice([1, 1, 2, 3]))
@@ -57,39 +48,20 @@ def scaled(count):
         yield file, files.exact(file, rng.randrange(256))
 
 
-def bytes_of(cases):
-    out = b'CASE' + struct.pack('<I', len(cases))
-    for file, lent in cases:
-        fill = next((lent[p][0] for p in reference.PARTS if lent[p]), 0)
-        out += struct.pack('<I', len(file)) + file + struct.pack('<4I', *(len(lent[p]) for p in reference.PARTS)) + bytes([fill, 0, 0])
-    return out
-
-
-def line_of(answer):
-    number, _, header, tables, buffers = answer
-    return 'open %d %s %s' % (number, reference.fnv(reference.palette_bytes(buffers)), reference.fnv(reference.record_bytes(header, tables)))
+def as_case(file, lent):
+    fill = next((lent[p][0] for p in reference.PARTS if lent[p]), 0)
+    return files.Case(file, lent, fill, [], [])
 
 
 def main():
-    cases = list(scaled(int(sys.argv[2])) if len(sys.argv) > 2 else stored())
-    answers = [reference.opening(file, lent) for file, lent in cases]
-    lines = [line_of(a) for a in answers]
-    faults = files.compare(shared, [(file, a) for (file, _), a in zip(cases, answers)])
-    print('%d cases, %d bytes; %d answers of the Rust differ by no listed row' % (len(cases), len(bytes_of(cases)), faults))
-    if len(sys.argv) > 2:
-        program = os.path.join(here, '..', 'target', 'bin', 'crn_cases')
-        said = subprocess.run([program], input=bytes_of(cases), stdout=subprocess.PIPE, check=True).stdout.decode().splitlines()
-        wrong = [k for k, (a, b) in enumerate(zip(said, lines)) if a != b] + list(range(len(said), len(lines)))
-        print('%d lines of the proved program, %d of them not as document 01 says%s' % (len(said), len(wrong), ': ' + str(wrong[:5]) if wrong else ''))
-        sys.exit(bool(faults or wrong))
-    if faults:
-        sys.exit(1)
-    crate = os.path.join(here, '..', 'crates', 'crn_cases')
-    os.makedirs(crate, exist_ok=True)
-    with open(os.path.join(crate, 'stdin'), 'wb') as out:
-        out.write(bytes_of(cases))
-    with open(os.path.join(crate, 'stdout'), 'w') as out:
-        out.write(''.join(line + '\n' for line in lines))
+    shared, count = os.path.abspath(sys.argv[1]), int(sys.argv[2])
+    cases = [as_case(*c) for c in scaled(files.generator(shared), count)]
+    answers = [files.answers_of(c) for c in cases]
+    faults = files.compare_openings(shared, [(c.file, opened) for c, (opened, _) in zip(cases, answers)])
+    print('%d cases; %d answers of the Rust differ by no listed row' % (len(cases), faults))
+    same = files.held_to_the_program(cases, [line for a in answers for line in files.lines_of(*a)])
+    sys.exit(bool(faults) or not same)
 
 
-main()
+if __name__ == '__main__':
+    main()
