@@ -1,4 +1,6 @@
-// Opens files, case by case from standard input, and writes a line for each call. docs/CASES.md has the format.
+// Opens files and unpacks their levels, case by case from standard input, and writes a line for each call. docs/CASES.md has the format.
+mod edits; // the edits of a record
+
 ghost use mathlib.Core.Path.{_≡_};
 ghost use Prim.Native.Nat.{_+_, _*_, _<_, _≤_};
 ghost use lib.ListN.{length};
@@ -7,6 +9,8 @@ use crn_format::Part;
 use crn_format::Record;
 use crn_format::Table;
 use crunch::Opened;
+use crunch::Unpacked;
+use edits::edited;
 use libc::STDIN_FILENO;
 use libc::STDOUT_FILENO;
 
@@ -36,6 +40,12 @@ fn selector_space() -> [u16; 24576]
     [0; 24576]
 }
 
+fn destination_space() -> [u8; 1048576]
+    ensures { λ r. ⌜ 1048576 ≡ length r ⌝ }
+{
+    [0; 1048576]
+}
+
 // ---- input
 
 // Whether standard input has enough to fill the buffer.
@@ -48,6 +58,14 @@ fn fill32(words: &mut [u32], value: u32) {
     let mut i: usize = 0;
     while i < words.len() {
         words[i] = value;
+        i += 1;
+    }
+}
+
+fn fill8(bytes: &mut [u8], value: u8) {
+    let mut i: usize = 0;
+    while i < bytes.len() {
+        bytes[i] = value;
         i += 1;
     }
 }
@@ -75,6 +93,16 @@ fn hash_of32(words: &[u32], h: u64) -> u64 {
     let mut i: usize = 0;
     while i < words.len() {
         k = hashed32(k, words[i]);
+        i += 1;
+    }
+    k
+}
+
+fn hash_of8(bytes: &[u8], h: u64) -> u64 {
+    let mut k = h;
+    let mut i: usize = 0;
+    while i < bytes.len() {
+        k = fnv::step(k, crn_utils::byte(bytes, i));
         i += 1;
     }
     k
@@ -190,6 +218,33 @@ fn line(
     text(b"\n");
 }
 
+fn number_after_space(n: u64) {
+    text(b" ");
+    io::print_decimal(STDOUT_FILENO, n);
+}
+
+// What unpacking a level answered, what is left of the budget, and what the destination holds.
+fn level_line(u: Unpacked, left: u64, dst: &[u8]) {
+    text(b"level");
+    match u {
+        Unpacked::Blocks { symbols, cutouts } => numbers(0, symbols, cutouts),
+        Unpacked::Refused {
+            number,
+            symbols,
+            at: _,
+        } => numbers(number as u64, symbols, 0),
+    }
+    number_after_space(left);
+    hash_after_space(hash_of8(dst, fnv::OFFSET));
+    text(b"\n");
+}
+
+fn numbers(refusal: u64, symbols: u64, cutouts: u64) {
+    number_after_space(refusal);
+    number_after_space(symbols);
+    number_after_space(cutouts);
+}
+
 // ---- cases
 
 fn fill_all(
@@ -197,13 +252,138 @@ fn fill_all(
     color_selectors: &mut [u32],
     alpha_endpoints: &mut [u16],
     alpha_selectors: &mut [u16],
-    value: u32,
+    value: u8,
 ) {
-    let half = (value % 256) as u16;
-    fill32(color_endpoints, value);
-    fill32(color_selectors, value);
-    fill16(alpha_endpoints, half);
-    fill16(alpha_selectors, half);
+    fill32(color_endpoints, value as u32);
+    fill32(color_selectors, value as u32);
+    fill16(alpha_endpoints, value as u16);
+    fill16(alpha_selectors, value as u16);
+}
+
+// A level unpacked into a destination of just the lent length, each byte filled first.
+fn unpack_filled(
+    file: Record,
+    bytes: &[u8],
+    color_endpoints: &[u32],
+    color_selectors: &[u32],
+    alpha_endpoints: &[u16],
+    alpha_selectors: &[u16],
+    c: Call,
+    value: u8,
+    dst: &mut [u8],
+) {
+    let mut left = c.budget;
+    fill8(dst, value);
+    let u = crunch::unpack_level(
+        file,
+        bytes,
+        color_endpoints,
+        color_selectors,
+        alpha_endpoints,
+        alpha_selectors,
+        c.level,
+        c.pitch,
+        c.distance,
+        &mut left,
+        dst,
+    );
+    level_line(u, left, dst);
+}
+
+// The next level call, or 1 or 2, as for a case.
+fn level_call(
+    file: Record,
+    bytes: &[u8],
+    color_endpoints: &[u32],
+    color_selectors: &[u32],
+    alpha_endpoints: &[u16],
+    alpha_selectors: &[u16],
+    value: u8,
+    space: &mut [u8],
+) -> u32 {
+    let c = take_call();
+    let n = c.size;
+    if !c.whole {
+        return 1;
+    }
+    if space.len() < n {
+        return 2;
+    }
+    unpack_filled(
+        file,
+        bytes,
+        color_endpoints,
+        color_selectors,
+        alpha_endpoints,
+        alpha_selectors,
+        c,
+        value,
+        &mut space[..n],
+    );
+    0
+}
+
+fn level_calls(
+    file: Record,
+    bytes: &[u8],
+    color_endpoints: &[u32],
+    color_selectors: &[u32],
+    alpha_endpoints: &[u16],
+    alpha_selectors: &[u16],
+    value: u8,
+    space: &mut [u8],
+) -> u32 {
+    let mut head = [0u8; 1];
+    if !take(&mut head) {
+        return 1;
+    }
+    let n = crn_utils::byte(&head, 0);
+    let mut k: u32 = 0;
+    while k < n {
+        let ended = level_call(
+            file,
+            bytes,
+            color_endpoints,
+            color_selectors,
+            alpha_endpoints,
+            alpha_selectors,
+            value,
+            space,
+        );
+        if ended != 0 {
+            return ended;
+        }
+        k += 1;
+    }
+    0
+}
+
+// The edits of the record that opening handed back, then the level calls.
+fn levels(
+    o: Opened,
+    bytes: &[u8],
+    color_endpoints: &[u32],
+    color_selectors: &[u32],
+    alpha_endpoints: &[u16],
+    alpha_selectors: &[u16],
+    value: u8,
+    space: &mut [u8],
+) -> u32 {
+    let e = take_edits(o.file);
+    if !e.whole {
+        return 1;
+    }
+    let file = e.file;
+    level_calls(
+        file,
+        bytes,
+        color_endpoints,
+        color_selectors,
+        alpha_endpoints,
+        alpha_selectors,
+        value,
+        space,
+    )
 }
 
 fn open_and_say(
@@ -212,7 +392,7 @@ fn open_and_say(
     color_selectors: &mut [u32],
     alpha_endpoints: &mut [u16],
     alpha_selectors: &mut [u16],
-) {
+) -> Opened {
     let o = crunch::open(
         file,
         color_endpoints,
@@ -227,6 +407,7 @@ fn open_and_say(
         alpha_endpoints,
         alpha_selectors,
     );
+    o
 }
 
 // A file opened with buffers of just the lent lengths, each word filled first.
@@ -236,8 +417,8 @@ fn open_filled(
     color_selectors: &mut [u32],
     alpha_endpoints: &mut [u16],
     alpha_selectors: &mut [u16],
-    value: u32,
-) {
+    value: u8,
+) -> Opened {
     fill_all(
         color_endpoints,
         color_selectors,
@@ -251,7 +432,88 @@ fn open_filled(
         color_selectors,
         alpha_endpoints,
         alpha_selectors,
+    )
+}
+
+fn open_and_unpack(
+    file: &[u8],
+    color_endpoints: &mut [u32],
+    color_selectors: &mut [u32],
+    alpha_endpoints: &mut [u16],
+    alpha_selectors: &mut [u16],
+    value: u8,
+    space: &mut [u8],
+) -> u32 {
+    let o = open_filled(
+        file,
+        color_endpoints,
+        color_selectors,
+        alpha_endpoints,
+        alpha_selectors,
+        value,
     );
+    levels(
+        o,
+        file,
+        color_endpoints,
+        color_selectors,
+        alpha_endpoints,
+        alpha_selectors,
+        value,
+        space,
+    )
+}
+
+// A level call as the input has it; not whole where the input ends too early.
+struct Call {
+    whole: bool,
+    level: u32,
+    pitch: usize,
+    distance: usize,
+    budget: u64,
+    size: usize,
+}
+
+fn take_call() -> Call {
+    let mut bytes = [0u8; 32];
+    let whole = take(&mut bytes);
+    Call {
+        whole: whole,
+        level: crn_utils::little32(&bytes, 0),
+        pitch: crn_utils::little64(&bytes, 4) as usize,
+        distance: crn_utils::little64(&bytes, 12) as usize,
+        budget: crn_utils::little64(&bytes, 20),
+        size: crn_utils::little32(&bytes, 28) as usize,
+    }
+}
+
+// A record after its edits; not whole where the input ends too early.
+struct Edited {
+    whole: bool,
+    file: Record,
+}
+
+fn take_edits(r: Record) -> Edited {
+    let mut file = r;
+    let mut head = [0u8; 1];
+    let mut whole = take(&mut head);
+    let n = crn_utils::byte(&head, 0);
+    let mut k: u32 = 0;
+    while k < n {
+        let mut bytes = [0u8; 9];
+        whole = whole & take(&mut bytes);
+        file = edited(
+            file,
+            crn_utils::byte(&bytes, 0),
+            crn_utils::little32(&bytes, 1) as usize,
+            crn_utils::little32(&bytes, 5),
+        );
+        k += 1;
+    }
+    Edited {
+        whole: whole,
+        file: file,
+    }
 }
 
 // How many words of each palette are lent, and the fill byte; or 1 or 2, as for a case.
@@ -261,7 +523,7 @@ struct Lent {
     color_selectors: usize,
     alpha_endpoints: usize,
     alpha_selectors: usize,
-    value: u32,
+    value: u8,
 }
 
 fn take_lent() -> Lent {
@@ -277,29 +539,38 @@ fn take_lent() -> Lent {
         color_selectors: b,
         alpha_endpoints: c,
         alpha_selectors: d,
-        value: crn_utils::byte(&bytes, 16),
+        value: bytes[16],
     }
 }
 
-fn with_buffers(file: &[u8], a: usize, b: usize, c: usize, d: usize, value: u32)
+fn with_buffers(
+    file: &[u8],
+    a: usize,
+    b: usize,
+    c: usize,
+    d: usize,
+    value: u8,
+    space: &mut [u8],
+) -> u32
     requires { ⌜ (a ≤ 8192) × (b ≤ 8192) × (c ≤ 8192) × (d ≤ 24576) ⌝ }
 {
     let mut color_endpoints = color_space();
     let mut color_selectors = color_space();
     let mut alpha_endpoints = alpha_space();
     let mut alpha_selectors = selector_space();
-    open_filled(
+    open_and_unpack(
         file,
         &mut color_endpoints[..a],
         &mut color_selectors[..b],
         &mut alpha_endpoints[..c],
         &mut alpha_selectors[..d],
         value,
-    );
+        space,
+    )
 }
 
 // 2 where more is lent than there is room for.
-fn with_lent(file: &[u8], l: Lent) -> u32 {
+fn with_lent(file: &[u8], l: Lent, space: &mut [u8]) -> u32 {
     let a = l.color_endpoints;
     let b = l.color_selectors;
     let c = l.alpha_endpoints;
@@ -316,8 +587,7 @@ fn with_lent(file: &[u8], l: Lent) -> u32 {
     if 24576 < d {
         return 2;
     }
-    with_buffers(file, a, b, c, d, l.value);
-    0
+    with_buffers(file, a, b, c, d, l.value, space)
 }
 
 // Whether standard input has so many bytes for the start of the buffer.
@@ -327,32 +597,8 @@ fn take_first(buffer: &mut [u8], n: usize) -> bool
     take(&mut buffer[..n])
 }
 
-// So many bytes of input that nothing is done with yet.
-fn pass(n: usize) -> bool
-    requires { ⌜ n ≤ 8192 ⌝ }
-{
-    let mut space = byte_space();
-    take(&mut space[..n])
-}
-
-fn byte_space() -> [u8; 8192]
-    ensures { λ r. ⌜ 8192 ≡ length r ⌝ }
-{
-    [0; 8192]
-}
-
-// A number of record edits, of 9 bytes each, or of level calls, of 32. They have a say once levels are unpacked, and are passed over until then.
-fn pass_list(calls: bool) -> bool {
-    let mut head = [0u8; 1];
-    if !take(&mut head) {
-        return false;
-    }
-    let n = crn_utils::byte(&head, 0) as usize;
-    if calls { pass(32 * n) } else { pass(9 * n) }
-}
-
 // The next case: 0 where it was done, 1 where the input ends too early, 2 where something is too large.
-fn one() -> u32 {
+fn one(space: &mut [u8]) -> u32 {
     let mut head = [0u8; 4];
     if !take(&mut head) {
         return 1;
@@ -369,23 +615,14 @@ fn one() -> u32 {
     if l.ended != 0 {
         return 1;
     }
-    let ended = with_lent(&file[..size], l);
-    if ended != 0 {
-        return ended;
-    }
-    if !pass_list(false) {
-        return 1;
-    }
-    if !pass_list(true) {
-        return 1;
-    }
-    0
+    with_lent(&file[..size], l, space)
 }
 
-fn cases(n: u32) {
+// Every destination is a part of one space.
+fn cases(n: u32, space: &mut [u8]) {
     let mut k: u32 = 0;
     while k < n {
-        let ended = one();
+        let ended = one(space);
         if ended == 1 {
             text(b"short input\n");
             return;
@@ -409,5 +646,6 @@ fn main() {
         text(b"no cases\n");
         return;
     }
-    cases(crn_utils::little32(&head, 4));
+    let mut space = destination_space();
+    cases(crn_utils::little32(&head, 4), &mut space);
 }

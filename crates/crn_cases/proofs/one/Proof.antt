@@ -1,7 +1,6 @@
 -- `one`: the part of the buffer that holds the file is as long as the file.
-use mathlib.Core.Path.{_≡_, sym}
+use mathlib.Core.Path.{sym}
 use native.Mathlib.Omega.{arith}
-use lib.ListN.{length}
 use lib.Seq.{length-take-le}
 use borrow.Author.Needs.{needs}
 use Rattle.crn_cases.proofs.one.Statement.{statement}
@@ -55,23 +54,11 @@ slice-aggregate-with-lent c = sym (length-take-le (c .before .before .before .be
 with-lent-requires : tie.Need-with-lent-requires
 with-lent-requires c κs = search needs
 
+same-length : tie.Need-same-length
+same-length c = search needs
+
 returns-5 : tie.Need-returns-5
 returns-5 c = search needs
-
-pass-list-requires : tie.Need-pass-list-requires
-pass-list-requires c κs = search needs
-
-returns-6 : tie.Need-returns-6
-returns-6 c = search needs
-
-pass-list-requires-2 : tie.Need-pass-list-requires-2
-pass-list-requires-2 c κs = search needs
-
-returns-7 : tie.Need-returns-7
-returns-7 c = search needs
-
-returns-8 : tie.Need-returns-8
-returns-8 c = search needs
 
 pub one-spec : {M : Type 1} → statement M
 one-spec =
@@ -93,9 +80,5 @@ one-spec =
     array-share-prefix-file
     slice-aggregate-with-lent
     with-lent-requires
-    returns-5
-    pass-list-requires
-    returns-6
-    pass-list-requires-2
-    returns-7
-    returns-8)
+    same-length
+    returns-5)
