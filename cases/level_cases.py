@@ -136,7 +136,7 @@ def stored(mkcrn):
     rng = random.Random(20261116)
     base = []
     for k, (width, height) in enumerate(SIDES):
-        wish = {'format': [0, 2, 3, 4, 5, 6, 7, 8, 9][k % 9], 'faces': 6 if k % 3 == 2 else 1, 'width': width, 'height': height, 'levels': 1 + max(width, height).bit_length() % 4}
+        wish = {'format': [0, 2, 3, 4, 5, 6, 7, 8, 9][k % 9], 'faces': 6 if (k + k // 9) % 3 == 2 else 1, 'width': width, 'height': height, 'levels': 1 + max(width, height).bit_length() % 4}
         base.append(smallest(mkcrn, 50 + 11 * k, 10, **wish))
     for k, file in enumerate(base):
         case = whole_case(file, rng.randrange(256), k % 2)
