@@ -51,8 +51,21 @@ def rust_layout(grid, pitch, destination, faces):
     return bytes(out)
 
 
-def asked(case, record, call, answer):
+def changes_a_segment(case, opened, record, level, file):
+    """Whether a byte of the header that was changed for the Rust is one that opening or the level reads as data: segments of damaged files may lie in the header."""
+    h, changed = opened[2], [at for at in range(min(len(file), 122)) if file[at] != case.file[at]]
+    segments = [(h[p][0], h[p][0] + h[p][1]) for p in reference.PARTS] + [(h['tables_offset'], h['tables_offset'] + h['tables_size'])]
+    if level < 13:
+        segments.append(reference.level_segment(record[0], file, level) if level < 12 else (record[0]['offsets'][12], len(file)))
+    return any(start <= at < end for at in changed for start, end in segments)
+
+
+def asked(case, opened, record, call, answer):
     """What the Rust is asked about a call: (file, words, bytes that it has to leave or None)."""
+    return [q for q in questions(case, record, call, answer) if not changes_a_segment(case, opened, record, call[0], q[0])]
+
+
+def questions(case, record, call, answer):
     level, pitch, distance, _, room = call
     file = in_the_file(case)
     if file is None:
@@ -110,12 +123,12 @@ def compare(shared, results):
             continue
         record = files.edited(reference.handed(opened[2], opened[3]), case.edits) if answers else None
         for call, answer in zip(case.calls, answers):
-            questions = asked(case, record, call, answer)
-            if not questions:
+            wanted = asked(case, opened, record, call, answer)
+            if not wanted:
                 tally['%s; edited as no file can be, row 45' % ('refused by %d' % answer[0] if answer[0] else 'unpacked')] += 1
-            for file, words, wanted in questions:
+            for file, words, left in wanted:
                 commands.append(('level', file, words))
-                about.append((case, record, opened, call, answer, wanted))
+                about.append((case, record, opened, call, answer, left))
     for (case, record, opened, call, answer, wanted), theirs in zip(about, files.rust_says(shared, commands)):
         ours = 'refused by %d' % answer[0] if answer[0] else 'unpacked, one face' if record[0]['faces'] == 1 else 'unpacked, a cube map, its first faces'
         if wanted is not None and theirs.startswith('level ok'):
