@@ -1,6 +1,6 @@
 // Opening, for the benchmark in bench/.
 ghost use Rattle.crn_format.specs.Opening.{opening as «openingOf»};
-ghost use Rattle.crn_decomp.specs.Lent.{lentOf};
+ghost use Rattle.crn_formats.specs.Lent.{lentOf};
 ghost use Rattle.crunch.specs.Opens.{Opens};
 use crunch::Opened;
 
