@@ -38,7 +38,7 @@ module _ {ps : Planes} {lookup sorted : List ℕ} (s : Served ps lookup sorted) 
 -- the slices from its start to its end are the table
 pub in-slices : (P : List ℕ → List ℕ → Type 0) (ps : Planes) (lookup sorted : List ℕ) (k : ℕ) → P (lookupOf ps lookup k) (sortedOf ps sorted k)
     → P (take (k * ps .«lookup_step» + ps .«lookup_step» - k * ps .«lookup_step») (drop (k * ps .«lookup_step») lookup))
-      (take (k * ps .«sorted_step» + ps .«sorted_step» - k * ps .«sorted_step») (drop (k * ps .«sorted_step») sorted))
+    (take (k * ps .«sorted_step» + ps .«sorted_step» - k * ps .«sorted_step») (drop (k * ps .«sorted_step») sorted))
 in-slices P ps lookup sorted k d = rw (across (k * ps .«lookup_step») (ps .«lookup_step»), across (k * ps .«sorted_step») (ps .«sorted_step»)) d
   where
     across : (a n : ℕ) → a + n - a ≡ n

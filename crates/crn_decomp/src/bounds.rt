@@ -1,15 +1,15 @@
 // The limits (refusal 2) and the sizes (refusal 3) of a header.
-use crn_formats::between;
-use crn_formats::implies;
-use crn_formats::has_alpha;
-use crn_formats::has_color;
-use crn_formats::is_known;
+use crn_format::Header;
+use crn_format::Part;
 use crn_formats::MAX_ENTRIES;
 use crn_formats::MAX_LEVELS;
 use crn_formats::MAX_SIDE;
 use crn_formats::TOO_LONG;
-use crn_format::Header;
-use crn_format::Part;
+use crn_formats::between;
+use crn_formats::has_alpha;
+use crn_formats::has_color;
+use crn_formats::implies;
+use crn_formats::is_known;
 ghost use mathlib.Core.Path.{_≡_};
 ghost use Rattle.crn_format.specs.Header.{entriesFit, withinLimits, sizesHold};
 

@@ -1,8 +1,8 @@
 // The signature and the fields of a header (document 01, Header). A byte past the file's end counts as 0.
-use crn_formats::MAX_LEVELS;
-use crn_formats::MIN_SIZE;
 use crn_format::Header;
 use crn_format::Part;
+use crn_formats::MAX_LEVELS;
+use crn_formats::MIN_SIZE;
 use crn_utils::big16;
 use crn_utils::big24;
 use crn_utils::big32;

@@ -1,7 +1,7 @@
 // The segments that opening reads (refusal 4), and the lent palettes that it fills (refusal 5).
-use crn_formats::implies;
 use crn_format::Header;
 use crn_format::Part;
+use crn_formats::implies;
 ghost use mathlib.Core.Path.{_≡_};
 ghost use Rattle.crn_format.specs.Opening.{ofPlane, stands, partStands, segmentsStand, roomFor};
 ghost use Rattle.crn_formats.specs.Lent.{lentOf};

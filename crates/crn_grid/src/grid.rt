@@ -1,7 +1,7 @@
 // The grid of a level's blocks: its columns and rows, whether pitch and distance cover them (refusal 11), and whether a destination holds
 // them (refusal 12). A handed header, a pitch and a distance may be any numbers: where a product could overflow, a quotient is compared.
-use crn_formats::block_bytes;
 use crn_format::Header;
+use crn_formats::block_bytes;
 ghost use mathlib.Core.Path.{_≡_};
 ghost use Prim.Native.Nat.{ℕ, _*_, _-_, _<_, _≤_, _^_};
 ghost use lib.Dec.{leb};

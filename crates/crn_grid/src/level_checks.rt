@@ -1,11 +1,11 @@
 // What is checked of a level before its first draw, of a handed header: its segment (refusal 4) and the palettes that its format uses
 // (refusal 5). A handed header may hold anything.
-use crn_formats::implies;
-use crn_formats::has_alpha;
-use crn_formats::has_color;
+use crn_format::Header;
 use crn_formats::MAX_LEVELS;
 use crn_formats::TOO_LONG;
-use crn_format::Header;
+use crn_formats::has_alpha;
+use crn_formats::has_color;
+use crn_formats::implies;
 ghost use mathlib.Core.Path.{_≡_};
 ghost use lib.ListN.{getD};
 ghost use Rattle.crn_format.specs.Unpacking.{levelStart, levelEnd, levelStands, palettesReach};

@@ -2,10 +2,10 @@
 use crate::decoders::Sizes;
 use crn_chunks::Planes;
 use crn_chunks::Side;
+use crn_format::Header;
 use crn_formats::block_bytes;
 use crn_formats::has_alpha;
 use crn_formats::has_color;
-use crn_format::Header;
 ghost use mathlib.Core.Path.{_≡_};
 ghost use Rattle.crn_format.specs.Choice.{pick};
 ghost use Rattle.crn_level.specs.Tables.{tablesIn};

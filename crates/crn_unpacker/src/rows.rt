@@ -11,11 +11,11 @@ ghost use Rattle.crn_unpacker.specs.Going.{given, Fit, Goes};
 ghost use Rattle.crn_unpacker.specs.Rows.{Rows};
 use crate::Went;
 use crate::blocks::blocks;
-use crn_chunks::read_chunk;
 use crn_chunks::Carried;
 use crn_chunks::Chunked;
 use crn_chunks::Planes;
 use crn_chunks::Stream;
+use crn_chunks::read_chunk;
 use crn_format::Grid;
 
 // A chunk is read whole, then its blocks are put in their places.
