@@ -6,7 +6,7 @@ use Rattle.crn_format.specs.Unpacking.{Unpacking}
 use Rattle.crn_level.specs.Unpacks.{Unpacks}
 use Rattle.crn_level.specs.declared.Unpacked.{Unpacked}
 use Rattle.crn_level.specs.declared.Unpacked.the-variants.{Blocks, Refused}
-use Rattle.crunch_bench.specs.declared.Answer.{Answer}
+use Rattle.crunch_bench.specs.declared.levels.Answer.{Answer}
 
 abbrev pub flatOf : Unpacked → Answer
 flatOf (Blocks symbols cutouts) = record { number = 0; at = 0; symbols = symbols; cutouts = cutouts }

@@ -2,8 +2,8 @@
 use borrow.Author.Needs.{needs}
 use mathlib.Core.Path.{sym, ap}
 use Rattle.crunch_bench.specs.Flat.{flatOf}
-use Rattle.crunch_bench.proofs.flat.Statement.{statement}
-use Rattle.crunch_bench.proofs.flat.Tie as tie
+use Rattle.crunch_bench.proofs.levels.flat.Statement.{statement}
+use Rattle.crunch_bench.proofs.levels.flat.Tie as tie
 
 enum-known-u : tie.Need-enum-known-u
 enum-known-u c = search needs
