@@ -43,7 +43,7 @@ def fitted_table(rng, symbols):
 
 def file(rng, fmt, entries):
     palettes, segments, seen = {name: [] for name in mkcrn.PALETTE_NAMES}, {}, set()
-    counts = {k + p: entries for k in sorted(set(mkcrn.planes(fmt))) for p in 'es'}
+    counts = {k + p: entries for k in 'ca' if k in mkcrn.planes(fmt) for p in 'es'}
     for name in counts:
         if name[1] == 's':
             segments[name], palettes[name] = mkcrn.selectors(rng, entries, seen, 2 if name == 'cs' else 3)

@@ -1,40 +1,8 @@
 // Files opened by the proved crate and by the Rust, in one process. See bench/README.md. Its argument is the folder with the files of bench/files.py.
 include!("the_rust.rs");
+include!("proved.rs");
 use std::hint::black_box;
 use std::time::Instant;
-
-#[repr(C)]
-#[derive(Clone, Copy)]
-struct Table {
-    count: u32,
-    lengths: [u8; 8192],
-}
-
-// The proved crate's record: a header of 40 words, then the tables.
-#[repr(C)]
-struct Opened {
-    refusal: u32,
-    at: usize,
-    header: [u32; 40],
-    tables: [Table; 5],
-}
-
-extern "C" {
-    fn open_file(file: *const u8, size: usize, ce: *mut u32, ce_count: usize, cs: *mut u32, cs_count: usize, ae: *mut u16, ae_count: usize, al: *mut u16, al_count: usize) -> Opened;
-}
-
-struct Lent {
-    ce: Vec<u32>,
-    cs: Vec<u32>,
-    ae: Vec<u16>,
-    al: Vec<u16>,
-}
-
-fn proved(file: &[u8], l: &mut Lent) -> Opened {
-    unsafe {
-        open_file(file.as_ptr(), file.len(), l.ce.as_mut_ptr(), l.ce.len(), l.cs.as_mut_ptr(), l.cs.len(), l.ae.as_mut_ptr(), l.ae.len(), l.al.as_mut_ptr(), l.al.len())
-    }
-}
 
 fn rust(file: &[u8]) -> crunch::crn_unpacker::CrnUnpacker<'_> {
     crunch::crn_decomp::crnd_unpack_begin(file, file.len() as u32).ok().expect("the Rust refuses a file")
@@ -42,12 +10,12 @@ fn rust(file: &[u8]) -> crunch::crn_unpacker::CrnUnpacker<'_> {
 
 // Both sides have to give the same palettes and tables.
 fn compare(file: &[u8], lent: &mut Lent) {
-    let (p, r) = (proved(file, lent), rust(file));
+    let (p, r) = (open(file, lent), rust(file));
     assert_eq!(p.refusal, 0);
     assert!(r.color_endpoints == lent.ce[..r.color_endpoints.len()] && r.color_selectors == lent.cs[..r.color_selectors.len()]);
     assert!(r.alpha_endpoints == lent.ae[..r.alpha_endpoints.len()] && r.alpha_selectors == lent.al[..r.alpha_selectors.len()]);
     let theirs = [&r.chunk_encoding_dm, &r.endpoint_delta_dm[0], &r.selector_delta_dm[0], &r.endpoint_delta_dm[1], &r.selector_delta_dm[1]];
-    for (ours, theirs) in p.tables.iter().zip(theirs) {
+    for (ours, theirs) in p.file.tables.iter().zip(theirs) {
         assert_eq!(ours.lengths[..ours.count as usize], theirs.code_sizes);
     }
 }
@@ -77,7 +45,7 @@ fn main() {
                 for _ in 0..200 {
                     took[0] = took[0].min(timed(repeats, || drop(black_box(rust(black_box(file))))));
                     took[1] = took[1].min(timed(repeats, || {
-                        black_box(&proved(black_box(file), &mut lent));
+                        black_box(&open(black_box(file), &mut lent));
                     }));
                 }
                 sums = [sums[0] + took[0], sums[1] + took[1]];
