@@ -1,9 +1,5 @@
-// The public entry (the Rust's crunch.rs): a file opened, and a level unpacked.
-mod tables_segment; // the code tables of the levels
-mod palettes; // the four palettes
-mod opening; // the whole opening
-
+// The public entry (the Rust's crunch.rs): a file opened, and a level unpacked. Neither asks anything of its caller.
 pub use crn_level::Unpacked;
 pub use crn_level::unpack_level;
-pub use opening::Opened;
-pub use opening::open;
+pub use crn_opening::Opened;
+pub use crn_opening::open;

@@ -1,7 +1,7 @@
 // Opening and unpacking, for the benchmarks in bench/.
 ghost use Rattle.crn_format.specs.Opening.{opening as «openingOf»};
 ghost use Rattle.crn_formats.specs.Lent.{lentOf};
-ghost use Rattle.crunch.specs.Opens.{Opens};
+ghost use Rattle.crn_opening.specs.Opens.{Opens};
 use crunch::Opened;
 
 mod levels;

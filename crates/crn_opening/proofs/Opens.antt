@@ -1,0 +1,95 @@
+-- From the parts of an opening to the whole.
+use Prim.Native.Nat.{ℕ}
+use mathlib.Core.Bool.{Bool, true, false}
+use mathlib.Core.List.{List}
+use mathlib.Core.Path.{_≡_, refl, sym, ap, subst, _∙_}
+use native.Mathlib.Omega.{arith}
+use lib.ListN.{length}
+use Rattle.crn_format.specs.Choice.{pick}
+use Rattle.crn_format.specs.Reading.{start, run, fromBits}
+use Rattle.crn_format.specs.Header.{signed, headerOf, withinLimits, sizesHold}
+use Rattle.crn_format.specs.Opening.{Palettes, Opening, opened, shut, segment, zeroed, segmentsStand, roomFor, sentTables, streams, opening}
+use Rattle.crn_format.specs.declared.Header.{Header}
+use Rattle.crn_format.specs.declared.Record.{Record}
+use Rattle.crn_decomp.specs.Look.{found, no, lookOf}
+use Rattle.crn_decomp.specs.declared.header_look.Looked.{Looked}
+use Rattle.crn_decomp.proofs.LookAndOpen.{afterLook, look-refuses, look-goes-on}
+use Rattle.crn_palettes.specs.declared.Ended.{Ended}
+use Rattle.crn_opening.specs.declared.tables_segment.Sent.{Sent}
+use Rattle.crn_opening.specs.declared.opening.Opened.{Opened}
+use Rattle.crn_opening.specs.SentTables.{sentOf}
+use Rattle.crn_opening.specs.Loading.{Passed, PalettesEnd}
+use Rattle.crn_opening.specs.Opens.{closed, toOpened, buffersOf, Opens}
+use Rattle.crn_opening.proofs.Loading.{cleared, on, off, tables-stop, tables-read}
+
+-- ---- an opening that is known
+
+module _ {o : Opening} {after : Palettes} where
+  pub is-shut : {n bit : ℕ} {left : Palettes} → o ≡ shut n bit left → after ≡ left → {r : Opened} → r ≡ closed n bit → Opens o after r
+  is-shut e l a = record { answer = a ∙ ap toOpened (sym e); leaves = l ∙ ap buffersOf (sym e) }
+
+  pub is-opened : {file : Record} → o ≡ opened file after → Opens o after (record { refusal = 0; at = 0; file = file })
+  is-opened e = record { answer = ap toOpened (sym e); leaves = ap buffersOf (sym e) }
+
+-- ---- the streams
+
+module _ (file : List ℕ) (h : Header) (lent : Palettes) {sent : Sent}
+    (e : sent ≡ sentOf (run (fromBits (segment file (h .«tables_offset») (h .«tables_size»))) (sentTables h) start)) where
+  pub shut-by-tables : (sent .refusal ≡ 0 → ⊥) → {after : Palettes} → after ≡ zeroed lent → {r : Opened} → r ≡ closed (sent .refusal) (sent .at)
+      → Opens (streams file lent h) after r
+  shut-by-tables z l a = is-shut (tables-stop file lent h e z) l a
+
+  module _ (z : sent .refusal ≡ 0) {after : Palettes} {ended : Ended} (p : PalettesEnd file h lent after ended) where
+    -- the buffers that the palettes left are cleared
+    pub shut-by-palettes : (ended .refusal ≡ 0 → ⊥) → {left : Palettes} → left ≡ zeroed after → length (left .colorEnds) ≡ length (lent .colorEnds)
+        → length (left .colorSels) ≡ length (lent .colorSels) → length (left .alphaEnds) ≡ length (lent .alphaEnds)
+        → length (left .alphaSels) ≡ length (lent .alphaSels) → {r : Opened} → r ≡ closed (ended .refusal) (ended .at) → Opens (streams file lent h) left r
+    shut-by-palettes y l h₁ h₂ h₃ h₄ a =
+        is-shut (tables-read file lent h e z ∙ p .same _ ∙ off lent ended _ y) (cleared after lent l h₁ h₂ h₃ h₄) a
+
+    pub streams-read : ended .refusal ≡ 0
+        → Opens (streams file lent h) after (record { refusal = 0; at = 0; file = record { header = h; tables = sent .tables } })
+    streams-read y = is-opened (tables-read file lent h e z ∙ p .same _ ∙ on lent ended _ y)
+
+-- ---- the checks, and then the streams
+
+-- a look that finds a header has passed its checks
+found-by : (h : Header) (s w z : Bool) → pick s (pick w (pick z (found h) (no 3)) (no 2)) (no 1) .refusal ≡ 0 → (w ≡ true) × (z ≡ true)
+found-by h true true true e = (refl, refl)
+found-by h true true false e = let z : ⊥ = omega arith in absurd z
+found-by h true false z e = let z : ⊥ = omega arith in absurd z
+found-by h false w z e = let z : ⊥ = omega arith in absurd z
+
+module _ (file : List ℕ) (lent : Palettes) {looked : Looked} (e : looked ≡ lookOf file) where
+  pub look-refused : (looked .refusal ≡ 0 → ⊥) → {r : Opened} → r ≡ closed (looked .refusal) 0 → Opens (opening file lent) lent r
+  look-refused z a =
+      let n = ap (λ (x : Looked). x .refusal) e in
+      is-shut (look-refuses file lent (omega arith) ∙ ap (λ (n : ℕ). shut n 0 lent) (sym n)) refl a
+
+  module _ (z : looked .refusal ≡ 0) where
+    looks-on : lookOf file .refusal ≡ 0
+    looks-on = sym (ap (λ (x : Looked). x .refusal) e) ∙ z
+
+    header-is : looked .header ≡ headerOf file
+    header-is = ap (λ (x : Looked). x .header) e ∙ look-goes-on file lent looks-on .1
+
+    goes-on : opening file lent ≡ afterLook file lent (looked .header)
+    goes-on = look-goes-on file lent looks-on .0 ∙ ap (afterLook file lent) (sym header-is)
+
+    pub no-segment : segmentsStand file (looked .header) ≡ false → {r : Opened} → r ≡ closed 4 0 → Opens (opening file lent) lent r
+    no-segment s a = is-shut (goes-on ∙ simp s) refl a
+
+    module _ (s : segmentsStand file (looked .header) ≡ true) where
+      pub no-room : roomFor (looked .header) lent ≡ false → {r : Opened} → r ≡ closed 5 0 → Opens (opening file lent) lent r
+      no-room f a = is-shut (goes-on ∙ simp (s, f)) refl a
+
+      module _ (f : roomFor (looked .header) lent ≡ true) where
+        pub all-passed : Passed file (looked .header) lent
+        unfolding lookOf
+        all-passed =
+            let h = headerOf file in
+            let both = found-by h (signed file) (withinLimits h) (sizesHold file h) looks-on in
+            record { within = rw header-is (both .0); sizes = rw header-is (both .1); stand = s; room = f }
+
+        pub then-streams : {after : Palettes} {r : Opened} → Opens (streams file lent (looked .header)) after r → Opens (opening file lent) after r
+        then-streams {after} {r} o = subst (λ (x : Opening). Opens x after r) (sym (goes-on ∙ simp (s, f))) o

@@ -1,0 +1,28 @@
+-- What opening a file answers, and what the four lent buffers then hold.
+use Prim.Native.Nat.{ℕ}
+use mathlib.Core.Path.{_≡_}
+use Rattle.crn_format.specs.Opening.{Palettes, Opening, opened, shut, tablesOf}
+use Rattle.crn_format.specs.declared.Record.{Record}
+use Rattle.crn_decomp.specs.Look.{emptyHeader}
+use Rattle.crn_opening.specs.SentTables.{noLengths}
+use Rattle.crn_opening.specs.declared.opening.Opened.{Opened}
+
+-- what a refusal gives for a file
+abbrev pub emptyRecord : Record
+emptyRecord = record { header = emptyHeader; tables = tablesOf noLengths }
+
+abbrev pub closed : ℕ → ℕ → Opened
+closed n bit = record { refusal = n; at = bit; file = emptyRecord }
+
+abbrev pub toOpened : Opening → Opened
+toOpened (opened file after) = record { refusal = 0; at = 0; file = file }
+toOpened (shut n bit after) = closed n bit
+
+abbrev pub buffersOf : Opening → Palettes
+buffersOf (opened file after) = after
+buffersOf (shut n bit after) = after
+
+-- r is what the definition answers, and `after` is what it leaves in the buffers
+pub record Opens (o : Opening) (after : Palettes) (r : Opened) : Type 0 where
+  pub answer : r ≡ toOpened o
+  pub leaves : after ≡ buffersOf o
