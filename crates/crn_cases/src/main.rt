@@ -1,16 +1,15 @@
 // Opens files and unpacks their levels, case by case from standard input, and writes a line for each call. docs/CASES.md has the format.
-mod edits; // the edits of a record
 
 ghost use mathlib.Core.Path.{_≡_};
 ghost use Prim.Native.Nat.{_+_, _*_, _<_, _≤_};
 ghost use lib.ListN.{length};
+use crn_edits::edited;
 use crn_format::Header;
 use crn_format::Part;
 use crn_format::Record;
 use crn_format::Table;
 use crunch::Opened;
 use crunch::Unpacked;
-use edits::edited;
 use libc::STDIN_FILENO;
 use libc::STDOUT_FILENO;
 

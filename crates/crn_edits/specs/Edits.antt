@@ -1,0 +1,65 @@
+-- A record with one edit made (docs/CASES.md). `set` at an index out of range changes nothing.
+use Prim.Native.Nat.{ℕ, _%_}
+use mathlib.Core.List.{List}
+use lib.ListN.{set}
+use lib.Dec.{eqb}
+use Rattle.crn_format.specs.Choice.{pick}
+use Rattle.crn_format.specs.declared.Part.{Part}
+use Rattle.crn_format.specs.declared.Header.{Header}
+use Rattle.crn_format.specs.declared.Table.{Table}
+use Rattle.crn_format.specs.declared.Tables.{Tables}
+use Rattle.crn_format.specs.declared.Record.{Record}
+
+-- the value for the field that is edited, the old one for any other
+abbrev pub chosen : ℕ → ℕ → ℕ → ℕ → ℕ
+chosen field this value old = pick (eqb field this) value old
+
+abbrev pub partEdited : Part → ℕ → ℕ → ℕ → Part
+partEdited p this field value = record { offset = p .offset; size = p .size; count = chosen field this value (p .count) }
+
+abbrev pub headerEdited : Header → ℕ → ℕ → ℕ → Header
+headerEdited h field index value =
+    record {
+      «header_size» = h .«header_size»;
+      «header_crc16» = h .«header_crc16»;
+      «data_size» = h .«data_size»;
+      «data_crc16» = h .«data_crc16»;
+      width = chosen field 1 value (h .width);
+      height = chosen field 2 value (h .height);
+      levels = chosen field 3 value (h .levels);
+      faces = chosen field 4 value (h .faces);
+      format = chosen field 5 value (h .format);
+      flags = h .flags;
+      reserved = h .reserved;
+      userdata0 = h .userdata0;
+      userdata1 = h .userdata1;
+      «color_endpoints» = partEdited (h .«color_endpoints») 6 field value;
+      «color_selectors» = partEdited (h .«color_selectors») 7 field value;
+      «alpha_endpoints» = partEdited (h .«alpha_endpoints») 8 field value;
+      «alpha_selectors» = partEdited (h .«alpha_selectors») 9 field value;
+      «tables_size» = h .«tables_size»;
+      «tables_offset» = h .«tables_offset»;
+      «level_offsets» = pick (eqb field 10) (set (h .«level_offsets») index value) (h .«level_offsets»);
+    }
+
+-- `count` and `length` are the fields of this table; a length is a byte
+abbrev pub tableEdited : Table → ℕ → ℕ → ℕ → ℕ → ℕ → Table
+tableEdited t count length field index value =
+    record {
+      count = chosen field count value (t .count);
+      lengths = pick (eqb field length) (set (t .lengths) index (value % 256)) (t .lengths);
+    }
+
+abbrev pub tablesEdited : Tables → ℕ → ℕ → ℕ → Tables
+tablesEdited t field index value =
+    record {
+      «chunk_encoding» = tableEdited (t .«chunk_encoding») 11 16 field index value;
+      «color_endpoint_delta» = tableEdited (t .«color_endpoint_delta») 12 17 field index value;
+      «color_selector_delta» = tableEdited (t .«color_selector_delta») 13 18 field index value;
+      «alpha_endpoint_delta» = tableEdited (t .«alpha_endpoint_delta») 14 19 field index value;
+      «alpha_selector_delta» = tableEdited (t .«alpha_selector_delta») 15 20 field index value;
+    }
+
+abbrev pub recordEdited : Record → ℕ → ℕ → ℕ → Record
+recordEdited r field index value =
+    record { header = headerEdited (r .header) field index value; tables = tablesEdited (r .tables) field index value }
