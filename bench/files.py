@@ -1,7 +1,9 @@
 #!/usr/bin/env python3
-"""files.py SHARED OUT: the files that bench/opens.rs opens, OUT/CODES-FORMAT-ENTRIES-N.crn, made of the parts of SHARED/oracle/mkcrn.py from fixed seeds.
-Every palette of a file has ENTRIES entries; its one level is there for the code tables that it needs. CODES is `any` for the generator's codes, whose lengths
-have nothing to do with how often a symbol comes, and `fitted` for Huffman's, as an encoder makes them."""
+"""files.py SHARED OUT: the files of the benchmarks, made of the parts of SHARED/oracle/mkcrn.py from fixed seeds.
+
+- OUT/CODES-FORMAT-ENTRIES-N.crn, for bench/opens.rs: every palette has ENTRIES entries; one level is there for the code tables that it needs. CODES is `any` for
+  the generator's codes, whose lengths have nothing to do with how often a symbol comes, and `fitted` for Huffman's, as an encoder makes them.
+- OUT/level-FORMAT-SIDE.crn, for bench/levels.rs: square, with all its levels; deltas are mostly small, and codes are fitted."""
 import collections
 import heapq
 import os
@@ -11,17 +13,23 @@ import sys
 sys.path.insert(0, os.path.join(sys.argv[1], 'oracle'))
 import mkcrn
 
-SIDES = {50: 64, 500: 256, 8000: 512}
+FORMATS = [('DXT1', 0), ('DXT5', 2), ('DXT5A', 9), ('DXN', 7)]
+SIDES = {50: 64, 500: 256, 8000: 512}                       # of the one level, by the palettes' entries
+ENTRIES = {64: 60, 256: 400, 1024: 2000, 4096: 6000}        # of the palettes, by the side of the first level
+
+any_table = mkcrn.random_table
 
 
-class Index(mkcrn.Index):
+class AnyEntry(mkcrn.Index):
     """Any entry next, by a delta below the palette's size, so that a table of 8,192 symbols has it."""
     def step(self, used=True, wild=False):
         return self.add((self.rng.randrange(self.size) - self.at) % self.size)
 
 
-mkcrn.Index = Index
-any_table = mkcrn.random_table
+class NearEntry(mkcrn.Index):
+    """The next entry by a delta that is mostly small."""
+    def step(self, used=True, wild=False):
+        return self.add(int(abs(self.rng.gauss(0, self.size / 12))) % self.size)
 
 
 def fitted_table(rng, symbols):
@@ -41,7 +49,9 @@ def fitted_table(rng, symbols):
         counts = {s: (n + 1) // 2 for s, n in counts.items()}
 
 
-def file(rng, fmt, entries):
+def file(rng, fmt, entries, sides, table, index):
+    """A file with a square level of each side, whose palettes have so many entries each."""
+    mkcrn.random_table, mkcrn.Index = table, index
     palettes, segments, seen = {name: [] for name in mkcrn.PALETTE_NAMES}, {}, set()
     counts = {k + p: entries for k in 'ca' if k in mkcrn.planes(fmt) for p in 'es'}
     for name in counts:
@@ -49,23 +59,34 @@ def file(rng, fmt, entries):
             segments[name], palettes[name] = mkcrn.selectors(rng, entries, seen, 2 if name == 'cs' else 3)
         else:
             segments[name], palettes[name] = (mkcrn.color_endpoints if name == 'ce' else mkcrn.alpha_endpoints)(rng, entries, seen)
-    side = SIDES[entries]
-    script, _ = mkcrn.level(rng, fmt, side, side, 1, palettes, 'free', False, False)
+    scripts = [mkcrn.level(rng, fmt, side, side, 1, palettes, 'free', False, False)[0] for side in sides]
+    drawn = collections.defaultdict(list)
+    for script in scripts:
+        for name, symbol in script:
+            drawn[name].append(symbol)
     bits, tables = mkcrn.Bits(), {}
     for name in ['chunk'] + list(counts):
-        tables[name] = mkcrn.random_table(rng, [symbol for table, symbol in script if table == name])
+        tables[name] = table(rng, drawn[name])
         mkcrn.put_table(bits, rng, tables[name], seen)
     segments['tables'] = bits.done()
-    bits = mkcrn.Bits()
-    mkcrn.put_symbols(bits, tables, script)
-    segments['level0'] = bits.done()
-    return mkcrn.assemble(segments, list(counts) + ['tables', 'level0'], counts, side, side, 1, 1, fmt)
+    levels = ['level%d' % n for n in range(len(sides))]
+    for name, script in zip(levels, scripts):
+        bits = mkcrn.Bits()
+        mkcrn.put_symbols(bits, tables, script)
+        segments[name] = bits.done()
+    return mkcrn.assemble(segments, list(counts) + ['tables'] + levels, counts, sides[0], sides[0], len(sides), 1, fmt)
 
 
-for codes, table in [('fitted', fitted_table), ('any', any_table)]:
-    mkcrn.random_table = table
-    for kind, fmt in [('DXT1', 0), ('DXT5', 2), ('DXT5A', 9), ('DXN', 7)]:
-        for entries in SIDES:
+def write(name, data):
+    with open(os.path.join(sys.argv[2], name + '.crn'), 'wb') as out:
+        out.write(data)
+
+
+for kind, fmt in FORMATS:
+    for codes, table in [('fitted', fitted_table), ('any', any_table)]:
+        for entries, side in SIDES.items():
             for n in range(8):
-                with open(os.path.join(sys.argv[2], '%s-%s-%d-%d.crn' % (codes, kind, entries, n)), 'wb') as out:
-                    out.write(file(random.Random(1000 * entries + 10 * fmt + n), fmt, entries))
+                write('%s-%s-%d-%d' % (codes, kind, entries, n), file(random.Random(1000 * entries + 10 * fmt + n), fmt, entries, [side], table, AnyEntry))
+    for side, entries in ENTRIES.items():
+        sides = [side >> n for n in range(side.bit_length())]
+        write('level-%s-%d' % (kind, side), file(random.Random(100 * side + fmt), fmt, entries, sides, fitted_table, NearEntry))

@@ -1,4 +1,4 @@
-// Levels unpacked by the proved crates and by the Rust, in one process. See bench/README.md. Its argument is the folder with the files of bench/level_files.py.
+// Levels unpacked by the proved crates and by the Rust, in one process. See bench/README.md. Its argument is the folder with the files of bench/files.py.
 include!("the_rust.rs");
 include!("proved.rs");
 use std::hint::black_box;
