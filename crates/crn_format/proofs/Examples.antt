@@ -15,6 +15,7 @@ use Rattle.crn_format.specs.Script.{bitsOf}
 use Rattle.crn_format.specs.Tables.{checked}
 use Rattle.crn_format.specs.Palettes.{entries, summed, colorSums, colorWord, alphaSums, alphaWord, changed, packed, colorFromLinear, alphaFromLinear, colorSelectorWords, alphaSelectorWords}
 use Rattle.crn_format.specs.Level.{Plane, stepped, endpointIndex, selectorIndex, planeSelectors, positionSelectors, encoding}
+use Rattle.crn_format.proofs.Choices.{both-hold}
 
 -- ---- the table
 
@@ -128,28 +129,17 @@ exampleAt [] k = record { gives = []; says = [] }
 exampleAt (e ∷ es) zero = e
 exampleAt (e ∷ es) (suc k) = exampleAt es k
 
-first : (a b : Bool) → both a b ≡ true → a ≡ true
-first true b e = refl
-first false b e = e
-
-second : (a b : Bool) → both a b ≡ true → b ≡ true
-second true b e = e
-second false b e = absurd (no e)
-  where
-    no : false ≡ true → ⊥
-    no e = let z : _≡_ {A = ℕ} 0 1 = cc in omega arith
-
 agreed : (xs ys : List ℕ) → agree xs ys ≡ true → xs ≡ ys
 agreed [] [] e = refl
 agreed [] (y ∷ ys) e = let z : _≡_ {A = ℕ} 0 1 = cc in absurd (omega arith)
 agreed (x ∷ xs) [] e = let z : _≡_ {A = ℕ} 0 1 = cc in absurd (omega arith)
 agreed (x ∷ xs) (y ∷ ys) e =
-    ap₂ _∷_ (eqb-true x y (first (eqb x y) (agree xs ys) e)) (agreed xs ys (second (eqb x y) (agree xs ys) e))
+    let h = both-hold (eqb x y) (agree xs ys) e in ap₂ _∷_ (eqb-true x y (h .0)) (agreed xs ys (h .1))
 
 each : (es : List Example) → allAgree es ≡ true → (k : ℕ) → exampleAt es k .gives ≡ exampleAt es k .says
 each [] t k = refl
-each (e ∷ es) t zero = agreed (e .gives) (e .says) (first (agree (e .gives) (e .says)) (allAgree es) t)
-each (e ∷ es) t (suc k) = each es (second (agree (e .gives) (e .says)) (allAgree es) t) k
+each (e ∷ es) t zero = agreed (e .gives) (e .says) (both-hold (agree (e .gives) (e .says)) (allAgree es) t .0)
+each (e ∷ es) t (suc k) = each es (both-hold (agree (e .gives) (e .says)) (allAgree es) t .1) k
 
 -- the test passes
 test : allAgree examples ≡ true

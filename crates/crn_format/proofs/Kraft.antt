@@ -1,6 +1,6 @@
 -- Where the codes take no more room than there is, each fits in as many bits as its length says.
 use Prim.Native.Nat.{ℕ, zero, suc, _+_, _-_, _*_, _^_, _<_, _≤_, zero-le}
-use mathlib.Core.Bool.{Bool, true, false}
+use mathlib.Core.Bool.{true}
 use mathlib.Core.List.{List}
 use mathlib.Core.Path.{_≡_, refl, sym, ap, _∙_}
 use native.Mathlib.Nat.{pow-suc, mul-assoc, mul-comm, add-mul, le-of-mul-le-mul-right, zero-mul, suc-mul}
@@ -10,8 +10,8 @@ use native.Mathlib.Omega.{arith}
 use lib.ListN.{length, getD}
 use lib.Pow.{pow-pos, pow-add}
 use borrow.Author.Tests.{eq-eqb, ne-eqb}
-use Rattle.crn_format.specs.Choice.{both}
 use Rattle.crn_format.specs.Codes.{below, used, firstCode, codeOf, room, allFit, isCode}
+use Rattle.crn_format.proofs.Choices.{both-hold}
 use Rattle.crn_format.proofs.Drawing.{scale, used-pos, below-lt, below-same, below-other}
 
 -- the room of the codes of the symbols below n, counted by their lengths, up to l
@@ -78,8 +78,4 @@ codes-fit t y m k h c =
 
 -- what lengths that make a code are: none is above 16
 pub code-fits : (ls : List ℕ) → isCode ls ≡ true → allFit ls (length ls) ≡ true
-code-fits ls e = first (allFit ls (length ls)) _ e
-  where
-    first : (a b : Bool) → both a b ≡ true → a ≡ true
-    first true b e = refl
-    first false b e = e
+code-fits ls e = both-hold (allFit ls (length ls)) _ e .0

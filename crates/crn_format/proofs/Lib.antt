@@ -1,4 +1,6 @@
+pub mod Choices
 pub mod Steps
+pub mod Answers
 pub mod Drawing
 pub mod Kraft
 pub mod Scripts

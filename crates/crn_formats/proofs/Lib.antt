@@ -1,2 +1,3 @@
 pub mod Joined
 pub mod ByFormat
+pub mod Limited

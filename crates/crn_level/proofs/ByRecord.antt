@@ -19,7 +19,7 @@ use Rattle.crn_level.specs.Tables.{Able, countsOf, CodedTo, codesBy, tab
 use Rattle.crn_level.specs.Planning.{planesBy, planesFor}
 use Rattle.crn_level.specs.Unpacks.{Unpacks}
 use Rattle.crn_level.specs.Levels.{Checked, endedBy}
-use Rattle.crn_level.proofs.Limits.{Limited, limited}
+use Rattle.crn_formats.proofs.Limited.{Limited, limited}
 use Rattle.crn_level.proofs.Formats.{codesOf, chunk-code, planes-by, shades-by, bytes-by, served-by}
 
 abbrev kindIn : Record → Kind

@@ -24,7 +24,8 @@ use Rattle.crn_level.specs.declared.Unpacked.the-variants.{Refused}
 use Rattle.crn_level.specs.Unpacks.{answerOf, Unpacks}
 use Rattle.crn_level.specs.Levels.{Checked}
 use Rattle.crn_level.specs.Refusals.{firstFailed, refusalBy}
-use Rattle.crn_level.proofs.Limits.{both-hold, Limited, limited}
+use Rattle.crn_format.proofs.Choices.{both-hold}
+use Rattle.crn_formats.proofs.Limited.{Limited, limited}
 
 -- ---- seven tests
 

@@ -19,7 +19,7 @@ use Rattle.crn_unpacker.specs.Going.{shadeOf}
 use Rattle.crn_level.specs.declared.decoders.Sizes.{Sizes}
 use Rattle.crn_level.specs.Tables.{countsOf, Able, CodedTo, codesBy, tablesIn}
 use Rattle.crn_level.specs.Planning.{planesBy, colorTables}
-use Rattle.crn_level.proofs.Limits.{Limited}
+use Rattle.crn_formats.proofs.Limited.{Limited}
 
 -- the codes of a record's tables, by the numbers of the decoder tables
 abbrev pub codesOf : Bool → Tables → ℕ → List ℕ

@@ -1,4 +1,3 @@
-pub mod Limits
 pub mod Parts
 pub mod Made
 pub mod Formats

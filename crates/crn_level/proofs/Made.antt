@@ -19,7 +19,7 @@ use Rattle.crn_symbol_codec.specs.Decoders.{Decodes}
 use Rattle.crn_level.specs.declared.decoders.Sizes.{Sizes}
 use Rattle.crn_level.specs.declared.decoders.Counts.{Counts}
 use Rattle.crn_level.specs.Tables.{countsOf, Few, Fair, AllFair, Able, part, CodedTo, codesBy, tablesIn}
-use Rattle.crn_level.proofs.Limits.{both-hold, and-hold}
+use Rattle.crn_format.proofs.Choices.{both-hold}
 use Rattle.crn_level.proofs.Parts.{further, part-here, part-before}
 
 -- ---- where a table stands
@@ -51,6 +51,10 @@ module _ (cs : ℕ → List ℕ) (k : ℕ) (s : Sizes) (lookup sorted ys zs us v
           rw (part-before (s .«lookup_step») lookup k fits₁ j l (ys ++ zs), part-before (s .«sorted_step») sorted k fits₂ j l (us ++ vs)) (before .each j l)
 
 -- ---- tables that hold
+
+pub and-hold : (a b : Bool) → (a && b) ≡ true → (a ≡ true) × (b ≡ true)
+and-hold true b e = (refl, e)
+and-hold false b e = absurd (false≢true e)
 
 none-fit : (ls : List ℕ) (n : ℕ) → n ≡ 0 → allFit (take n ls) (length (take n ls)) ≡ true
 unfolding allFit

@@ -6,49 +6,12 @@ use mathlib.Core.List.{List, [], _∷_, _++_}
 use native.Mathlib.Omega.{arith}
 use native.Mathlib.Nat.{not-suc-le-zero}
 use lib.ListN.{length, getD, length-append}
-use Rattle.crn_format.specs.Reading.{Reading, answer, refuse, want, mark, next, Step, got, refused, then, Source, run}
+use Rattle.crn_format.specs.Reading.{Reading, answer, next, Step, got, refused, then, Source, run}
 use Rattle.crn_format.specs.Level.{Plane, Running, Chunk, endpointIndices, planeEndpoints, selectorIndex, planeSelectors, positionSelectors, encoding, tileCounts, tileAt, lasts, lastRow, chunk}
 use Rattle.crn_format.specs.Grid.{Shade, color, alpha, half, halves, little, nthList, blockOf}
+use Rattle.crn_format.proofs.Answers.{All, run-all, all-next, Any, all-any, all-answer}
 use Rattle.crn_unpacker.specs.States.{stateTo, chunkTo}
 use Rattle.crn_unpacker.proofs.States.{stays, chunk-got}
-
--- ---- what holds of every answer of a reading
-
-unfoldable Every : {A : Type 0} → (A → Type 0) → Reading A → Type 0
-Every P (answer a) = P a
-Every P (refuse n) = Unit {0}
-Every P (want x f) = (s : ℕ) → Every P (f s)
-Every P (mark m) = Every P m
-
-every-run : {S A : Type 0} (P : A → Type 0) (src : Source S) (m : Reading A) (w : S) {a : A} {v : S} → Every P m → run src m w ≡ got a v → P a
-unfolding Every run
-every-run P src (answer b) w {a} h e = let z : b ≡ a = cc in subst P z h
-every-run P src (refuse n) w h e = let z : _≡_ {A = ℕ} 0 1 = cc in absurd (omega arith)
-every-run {S} {A} P src (want x f) w {a} {v} h e = go (λ s u. every-run P src (f s) u (h s)) (src .serve x w) e
-  where
-    go : ((s : ℕ) (u : S) → run src (f s) u ≡ got a v → P a) → (y : Step S ℕ) → then y (λ s u. run src (f s) u) ≡ got a v → P a
-    go rest (got s u) e = rest s u (unfold then in e)
-    go rest (refused n u) e = let z : _≡_ {A = Step S A} (refused n u) (got a v) = (unfold then in e) in let y : _≡_ {A = ℕ} 0 1 = cc in absurd (omega arith)
-every-run P src (mark m) w h e = every-run P src m (src .marked w) h e
-
-every-next : {A B : Type 0} (Q : A → Type 0) (P : B → Type 0) (m : Reading A) (k : A → Reading B) → Every Q m → ((a : A) → Q a → Every P (k a))
-    → Every P (next m k)
-unfolding Every next
-every-next Q P (answer a) k h g = g a h
-every-next Q P (refuse n) k h g = tt
-every-next Q P (want x f) k h g = λ s. every-next Q P (f s) k (h s) g
-every-next Q P (mark m) k h g = every-next Q P m k h g
-
-anything : {A : Type 0} (m : Reading A) → Every (λ _. Unit {0}) m
-unfolding Every
-anything (answer a) = tt
-anything (refuse n) = tt
-anything (want x f) = λ s. anything (f s)
-anything (mark m) = anything m
-
-answering : {A : Type 0} (P : A → Type 0) {a : A} → P a → Every P (answer a)
-unfolding Every
-answering P h = h
 
 -- ---- lists for each plane
 
@@ -81,36 +44,36 @@ lasts-long (i ∷ is) (t ∷ ts) h = ap suc (lasts-long is ts (omega arith))
 -- ---- the readings of a chunk
 
 -- an answer put before a list of answers
-one-longer : {A : Type 0} (m : Reading A) (rest : Reading (List A)) (n : ℕ) → Every (λ xs. length xs ≡ n) rest
-    → Every (λ xs. length xs ≡ suc n) (next m λ a. next rest λ more. answer (a ∷ more))
+one-longer : {A : Type 0} (m : Reading A) (rest : Reading (List A)) (n : ℕ) → All (λ xs. length xs ≡ n) rest
+    → All (λ xs. length xs ≡ suc n) (next m λ a. next rest λ more. answer (a ∷ more))
 one-longer m rest n h =
-    every-next (λ _. Unit {0}) (λ xs. length xs ≡ suc n) m (λ a. next rest λ more. answer (a ∷ more)) (anything m)
-    (λ a _. every-next (λ xs. length xs ≡ n) (λ xs. length xs ≡ suc n) rest (λ more. answer (a ∷ more)) h
-    (λ more long. answering (λ xs. length xs ≡ suc n) (ap suc long)))
+    all-next Any (λ xs. length xs ≡ suc n) m (λ a. next rest λ more. answer (a ∷ more)) (all-any m)
+    (λ a _. all-next (λ xs. length xs ≡ n) (λ xs. length xs ≡ suc n) rest (λ more. answer (a ∷ more)) h
+    (λ more long. all-answer (λ xs. length xs ≡ suc n) (ap suc long)))
 
-tiles-long : (ps : List Plane) (n : ℕ) (is : List ℕ) → length is ≡ length ps → Every (λ ts. length ts ≡ length ps) (planeEndpoints ps n is)
+tiles-long : (ps : List Plane) (n : ℕ) (is : List ℕ) → length is ≡ length ps → All (λ ts. length ts ≡ length ps) (planeEndpoints ps n is)
 unfolding planeEndpoints
-tiles-long [] n is h = answering (λ ts. length ts ≡ 0) refl
+tiles-long [] n is h = all-answer (λ ts. length ts ≡ 0) refl
 tiles-long (p ∷ ps) n [] h = absurd (omega arith)
 tiles-long (p ∷ ps) n (i ∷ is) h =
     one-longer (endpointIndices p n i []) (planeEndpoints ps n is) (length ps) (tiles-long ps n is (omega arith))
 
-selectors-long : (ps : List Plane) (inside : Bool) (is : List ℕ) → length is ≡ length ps → Every (λ js. length js ≡ length ps) (planeSelectors ps inside is)
+selectors-long : (ps : List Plane) (inside : Bool) (is : List ℕ) → length is ≡ length ps → All (λ js. length js ≡ length ps) (planeSelectors ps inside is)
 unfolding planeSelectors
-selectors-long [] inside is h = answering (λ js. length js ≡ 0) refl
+selectors-long [] inside is h = all-answer (λ js. length js ≡ 0) refl
 selectors-long (p ∷ ps) inside [] h = absurd (omega arith)
 selectors-long (p ∷ ps) inside (i ∷ is) h =
     one-longer (selectorIndex p inside i) (planeSelectors ps inside is) (length ps) (selectors-long ps inside is (omega arith))
 
 positions-long : (ps : List Plane) (insides : List Bool) (is : List ℕ) (rows : List (List ℕ)) (n : ℕ) → length is ≡ length ps → Rowed (length ps) n rows
-    → Every (Rowed (length ps) (n + length insides)) (positionSelectors ps insides is rows)
+    → All (Rowed (length ps) (n + length insides)) (positionSelectors ps insides is rows)
 unfolding positionSelectors
 positions-long ps [] is rows n h r =
-    let e : n ≡ n + 0 = omega arith in answering (Rowed (length ps) (n + 0)) (subst (λ (k : ℕ). Rowed (length ps) k rows) e r)
+    let e : n ≡ n + 0 = omega arith in all-answer (Rowed (length ps) (n + 0)) (subst (λ (k : ℕ). Rowed (length ps) k rows) e r)
 positions-long ps (inside ∷ insides) is rows n h r =
     let e : suc n + length insides ≡ n + suc (length insides) = omega arith in
-    subst (λ (k : ℕ). Every (Rowed (length ps) k) (next (planeSelectors ps inside is) λ js. positionSelectors ps insides js (rows ++ (js ∷ [])))) e
-    (every-next (λ js. length js ≡ length ps) (Rowed (length ps) (suc n + length insides)) (planeSelectors ps inside is) (λ js. positionSelectors ps insides js (rows ++ (js ∷ [])))
+    subst (λ (k : ℕ). All (Rowed (length ps) k) (next (planeSelectors ps inside is) λ js. positionSelectors ps insides js (rows ++ (js ∷ [])))) e
+    (all-next (λ js. length js ≡ length ps) (Rowed (length ps) (suc n + length insides)) (planeSelectors ps inside is) (λ js. positionSelectors ps insides js (rows ++ (js ∷ [])))
     (selectors-long ps inside is h)
     (λ js long. positions-long ps insides js (rows ++ (js ∷ [])) (suc n) long (one-more js r long)))
 
@@ -129,15 +92,15 @@ abbrev Good : ℕ → Chunk × Running → Type 0
 Good m a = Shaped m (a .0) × Sized m (a .1)
 
 module _ (ls : List ℕ) (ps : List Plane) where
-  chunk-good : (inside : List Bool) (r : Running) → length inside ≡ 4 → Sized (length ps) r → Every (Good (length ps)) (chunk ls ps inside r)
+  chunk-good : (inside : List Bool) (r : Running) → length inside ≡ 4 → Sized (length ps) r → All (Good (length ps)) (chunk ls ps inside r)
   unfolding chunk
   chunk-good inside r four sized =
-      every-next (λ _. Unit {0}) (Good (length ps)) (encoding ls (r .pending)) _ (anything (encoding ls (r .pending)))
-      (λ e _. every-next (λ ts. length ts ≡ length ps) (Good (length ps)) (planeEndpoints ps (getD tileCounts (e .0) 0) (r .endpoint)) _
+      all-next Any (Good (length ps)) (encoding ls (r .pending)) _ (all-any (encoding ls (r .pending)))
+      (λ e _. all-next (λ ts. length ts ≡ length ps) (Good (length ps)) (planeEndpoints ps (getD tileCounts (e .0) 0) (r .endpoint)) _
       (tiles-long ps (getD tileCounts (e .0) 0) (r .endpoint) (sized .endpoint))
-      (λ t tiles. every-next (Rowed (length ps) (0 + length inside)) (Good (length ps)) (positionSelectors ps inside (r .selector) []) _
+      (λ t tiles. all-next (Rowed (length ps) (0 + length inside)) (Good (length ps)) (positionSelectors ps inside (r .selector) []) _
       (positions-long ps inside (r .selector) [] 0 (sized .selector) none)
-      (λ q rows. answering (Good (length ps)) (
+      (λ q rows. all-answer (Good (length ps)) (
         record { tiles = tiles; positions = subst (λ (k : ℕ). Rowed (length ps) k q) (omega arith) rows },
         record {
           endpoint = lasts-long (r .endpoint) t (tiles ∙ sym (sized .endpoint)) ∙ sized .endpoint;
@@ -179,8 +142,8 @@ module _ (ls : List ℕ) (ps : List Plane) where
     state-sized zero q v e = let z : r ≡ q = cc in subst (Sized (length ps)) z sized
     state-sized (suc n) q v e =
         let x = reached n q v e in
-        every-run (Good (length ps)) src (chunk ls ps (flags n) (x .at)) (x .place)
-        (chunk-good (flags n) (x .at) (four n) (state-sized n (x .at) (x .place) (x .state))) (x .runs) .1
+        run-all src (Good (length ps)) (chunk ls ps (flags n) (x .at))
+        (chunk-good (flags n) (x .at) (four n) (state-sized n (x .at) (x .place) (x .state))) (x .place) (x .runs) .1
 
     -- a chunk that comes before a state that is reached
     pub chunk-shaped : (n k : ℕ) {q : Running} {v : S} → k < n → stateTo src ls ps flags r w n ≡ got q v → Shaped (length ps) (chunkTo src ls ps flags r w k)
@@ -191,8 +154,8 @@ module _ (ls : List ℕ) (ps : List Plane) where
             let x = reached k q₁ v₁ is in
             let same : chunkTo src ls ps flags r w k ≡ x .read = chunk-got src ls ps flags r w k (flags k) (x .state) refl (x .runs) in
             subst (Shaped (length ps)) (sym same)
-            (every-run (Good (length ps)) src (chunk ls ps (flags k) (x .at)) (x .place)
-            (chunk-good (flags k) (x .at) (four k) (state-sized k (x .at) (x .place) (x .state))) (x .runs) .0)
+            (run-all src (Good (length ps)) (chunk ls ps (flags k) (x .at))
+            (chunk-good (flags k) (x .at) (four k) (state-sized k (x .at) (x .place) (x .state))) (x .place) (x .runs) .0)
         go (refused x u) is =
             let z : _≡_ {A = Step S Running} (refused x u) (got q v) = sym (stays src ls ps flags r w (suc k) n h is) ∙ e in
             let y : _≡_ {A = ℕ} 0 1 = cc in

@@ -2,7 +2,7 @@
 use mathlib.Core.Path.{refl}
 use mathlib.Core.Bool.{_&&_}
 use lib.Dec.{leb}
-use Rattle.crn_level.proofs.Limits.{and-hold}
+use Rattle.crn_level.proofs.Made.{and-hold}
 use borrow.Author.Needs.{needs}
 use Rattle.crn_level.proofs.drawing.draw_level.Statement.{statement}
 use Rattle.crn_level.proofs.drawing.draw_level.Tie as tie

@@ -1,6 +1,6 @@
 -- What the limits (refusal 2) say of a header.
 use Prim.Native.Nat.{ℕ, _≤_}
-use mathlib.Core.Bool.{Bool, true, false, false≢true, _&&_}
+use mathlib.Core.Bool.{Bool, true, false, false≢true}
 use mathlib.Core.Path.{_≡_, refl}
 use native.Mathlib.Omega.{arith}
 use lib.Dec.{leb, eqb}
@@ -10,15 +10,7 @@ use Rattle.crn_format.specs.Limits.{maxSide, maxLevels, maxEntries}
 use Rattle.crn_format.specs.Header.{kindOf, known, hasColor, hasAlpha, between, entriesFit, withinLimits}
 use Rattle.crn_format.specs.declared.Part.{Part}
 use Rattle.crn_format.specs.declared.Header.{Header}
-
--- two tests that hold together hold each
-pub both-hold : (a b : Bool) → both a b ≡ true → (a ≡ true) × (b ≡ true)
-both-hold true b e = (refl, e)
-both-hold false b e = absurd (false≢true e)
-
-pub and-hold : (a b : Bool) → (a && b) ≡ true → (a ≡ true) × (b ≡ true)
-and-hold true b e = (refl, e)
-and-hold false b e = absurd (false≢true e)
+use Rattle.crn_format.proofs.Choices.{both-hold}
 
 entries : (uses : Bool) (p : Part) → entriesFit uses p ≡ true → p .count ≤ maxEntries
 entries uses p e = leb-true _ _ (both-hold (leb (pick uses 1 0) (p .count)) _ e .1)
