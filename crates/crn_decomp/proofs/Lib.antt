@@ -1,2 +1,1 @@
-pub mod Signature
 pub mod LookAndOpen

@@ -1,8 +1,8 @@
 // The header look: refusal 1, 2 or 3, or the header.
-use crate::bounds::sizes_hold;
-use crate::bounds::within_limits;
-use crate::header::header_of;
-use crate::header::is_signed;
+use crn_bounds::sizes_hold;
+use crn_bounds::within_limits;
+use crn_header::header_of;
+use crn_header::is_signed;
 use crn_format::Header;
 use crn_format::Part;
 ghost use mathlib.Core.Path.{_≡_};
