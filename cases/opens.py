@@ -40,7 +40,7 @@ def stored(mkcrn):
 def scaled(mkcrn, count):
     rng = random.Random(count)
     for k in range(count):
-        file, _ = mkcrn.make(rng.getrandbits(40), width=rng.randint(1, 40), height=rng.randint(1, 40), levels=rng.choice([1, 1, 2, 3]))
+        file, _ = mkcrn.make(rng.getrandbits(40), width=rng.randint(1, 12), height=rng.randint(1, 12), levels=rng.choice([1, 1, 2, 3]))
         if k % 2:
             file = files.damaged(rng, file)
         if len(file) > 262144:

@@ -8,8 +8,8 @@ LENGTH_ORDER = [17, 18, 19, 20, 0, 8, 7, 9, 6, 10, 5, 11, 4, 12, 3, 13, 2, 14, 1
 
 
 class Refusal(Exception):
-    def __init__(self, number, bit=0):
-        self.number, self.bit = number, bit
+    def __init__(self, number, bit=0, rule=''):
+        self.number, self.bit, self.rule = number, bit, rule
 
 
 def canonical(lengths):
@@ -71,7 +71,7 @@ def table(reader):
     if count == 0:
         return []
     if count > 8192:
-        raise Refusal(6, at)
+        raise Refusal(6, at, 'count')
     at = reader.place
     n = reader.number(5)
     if not 1 <= n <= 21:
@@ -80,7 +80,7 @@ def table(reader):
     for symbol in LENGTH_ORDER[:n]:
         code[symbol] = reader.number(3)
     if not is_code(code):
-        raise Refusal(6, reader.place)
+        raise Refusal(6, reader.place, 'code of lengths' if any(code) else 'no code of lengths')
     lengths = []
     while len(lengths) < count:
         symbol, at = reader.draw(code)
@@ -99,7 +99,7 @@ def table(reader):
             raise Refusal(6, at)
         lengths += run
     if not is_code(lengths):
-        raise Refusal(6, reader.place)
+        raise Refusal(6, reader.place, 'lengths' if any(lengths) else 'no lengths')
     return lengths
 
 
