@@ -18,7 +18,7 @@ use Rattle.crn_format.specs.declared.Tables.{Tables}
 use Rattle.crn_symbol_codec.specs.Decoders.{Decodes}
 use Rattle.crn_level.specs.declared.decoders.Sizes.{Sizes}
 use Rattle.crn_level.specs.declared.decoders.Counts.{Counts}
-use Rattle.crn_level.specs.Tables.{countsOf, Few, Fair, AllFair, Able, part, CodedTo, codesBy, tablesIn}
+use Rattle.crn_level.specs.Tables.{countsOf, Few, Long, Fair, AllFair, Able, part, CodedTo, codesBy, tablesIn}
 use Rattle.crn_format.proofs.Choices.{both-hold}
 use Rattle.crn_level.proofs.Parts.{further, part-here, part-before}
 
@@ -52,7 +52,7 @@ module _ (cs : ℕ → List ℕ) (k : ℕ) (s : Sizes) (lookup sorted ys zs us v
 
 -- ---- tables that hold
 
-pub and-hold : (a b : Bool) → (a && b) ≡ true → (a ≡ true) × (b ≡ true)
+and-hold : (a b : Bool) → (a && b) ≡ true → (a ≡ true) × (b ≡ true)
 and-hold true b e = (refl, e)
 and-hold false b e = absurd (false≢true e)
 
@@ -69,14 +69,6 @@ fair t room long h fits =
     let p = both-hold (leb (t .count) maxSymbols) _ h in
     let few : t .count ≤ maxSymbols = leb-true (t .count) maxSymbols (p .0) in
     record { inside = omega arith; few = few; short = either-fits (t .lengths) (t .count) (eqb (t .count) 0) refl (p .1); fits = fits }
-
--- each table of a record is as long as its type says
-pub record Long (t : Tables) : Type 0 where
-  pub chunk : maxSymbols ≤ length (t .«chunk_encoding» .lengths)
-  pub colorEnds : maxSymbols ≤ length (t .«color_endpoint_delta» .lengths)
-  pub colorSels : maxSymbols ≤ length (t .«color_selector_delta» .lengths)
-  pub alphaEnds : maxSymbols ≤ length (t .«alpha_endpoint_delta» .lengths)
-  pub alphaSels : maxSymbols ≤ length (t .«alpha_selector_delta» .lengths)
 
 pub all-fair : (t : Tables) (room : ℕ) → Long t → tablesHold t ≡ true → Few (countsOf t) room
     → AllFair (countsOf t) (t .«chunk_encoding» .lengths) (t .«color_endpoint_delta» .lengths) (t .«color_selector_delta» .lengths)
@@ -95,11 +87,6 @@ all-fair t room long h few =
       alphaS = fair (t .«alpha_selector_delta») room (long .alphaSels) (p3 .1) (few .alphaSels);
     }
 
-pub all-fair-by : (t : Tables) (room : ℕ) {c : Counts} → c ≡ countsOf t → Long t → tablesHold t ≡ true → Few c room
-    → AllFair c (t .«chunk_encoding» .lengths) (t .«color_endpoint_delta» .lengths) (t .«color_selector_delta» .lengths)
-    (t .«alpha_endpoint_delta» .lengths) (t .«alpha_selector_delta» .lengths) room
-all-fair-by t room e long h few = rw e (all-fair t room long h (rw e at few))
-
 -- the code's test of five counts
 pub few-all : (c : Counts) → ((((leb (c .chunk) 1024 && leb (c .«color_ends») 1024) && leb (c .«color_sels») 1024) && leb (c .«alpha_ends») 1024) && leb (c .«alpha_sels») 1024) ≡ true
     → Few c 1024
@@ -111,20 +98,20 @@ few-all c e =
     record { chunk = leb-true _ _ (p1 .0); colorEnds = leb-true _ _ (p1 .1); colorSels = leb-true _ _ (p2 .1); alphaEnds = leb-true _ _ (p3 .1); alphaSels = leb-true _ _ (p4 .1) }
 
 -- a table that holds is for 8,192 symbols at most
-pub at-most : (t : Tables) {c : Counts} → c ≡ countsOf t → tablesHold t ≡ true → Few c maxSymbols
+pub at-most : (t : Tables) → tablesHold t ≡ true → Few (countsOf t) maxSymbols
 unfolding tablesHold
-at-most t {c} is h =
+at-most t h =
     let p0 = both-hold (tableHolds (t .«chunk_encoding»)) _ h in
     let p1 = both-hold (tableHolds (t .«color_endpoint_delta»)) _ (p0 .1) in
     let p2 = both-hold (tableHolds (t .«color_selector_delta»)) _ (p1 .1) in
     let p3 = both-hold (tableHolds (t .«alpha_endpoint_delta»)) _ (p2 .1) in
-    rw is (record {
+    record {
       chunk = leb-true _ _ (both-hold (leb (t .«chunk_encoding» .count) maxSymbols) _ (p0 .0) .0);
       colorEnds = leb-true _ _ (both-hold (leb (t .«color_endpoint_delta» .count) maxSymbols) _ (p1 .0) .0);
       colorSels = leb-true _ _ (both-hold (leb (t .«color_selector_delta» .count) maxSymbols) _ (p2 .0) .0);
       alphaEnds = leb-true _ _ (both-hold (leb (t .«alpha_endpoint_delta» .count) maxSymbols) _ (p3 .0) .0);
       alphaSels = leb-true _ _ (both-hold (leb (t .«alpha_selector_delta» .count) maxSymbols) _ (p3 .1) .0);
-    })
+    }
 
 -- ---- all tables of a format
 

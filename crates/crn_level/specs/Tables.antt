@@ -10,6 +10,8 @@ use Rattle.crn_format.specs.Codes.{allFit}
 use Rattle.crn_format.specs.Grid.{nthList}
 use Rattle.crn_format.specs.declared.Table.{Table}
 use Rattle.crn_format.specs.declared.Tables.{Tables}
+use Rattle.crn_format.specs.declared.Header.{Header}
+use Rattle.crn_format.specs.declared.Record.{Record}
 use Rattle.crn_symbol_codec.specs.Decoders.{Decodes}
 use Rattle.crn_level.specs.declared.decoders.Sizes.{Sizes}
 use Rattle.crn_level.specs.declared.decoders.Counts.{Counts}
@@ -29,6 +31,9 @@ tablesBy c chunk colorEnds colorSels alphaEnds alphaSels =
       «alpha_selector_delta» = tableBy (c .«alpha_sels») alphaSels;
     }
 
+abbrev pub recordBy : Header → Counts → List ℕ → List ℕ → List ℕ → List ℕ → List ℕ → Record
+recordBy h c chunk colorEnds colorSels alphaEnds alphaSels = record { header = h; tables = tablesBy c chunk colorEnds colorSels alphaEnds alphaSels }
+
 abbrev pub countsOf : Tables → Counts
 countsOf t =
     record {
@@ -38,6 +43,14 @@ countsOf t =
       «alpha_ends» = t .«alpha_endpoint_delta» .count;
       «alpha_sels» = t .«alpha_selector_delta» .count;
     }
+
+-- each table is as long as a record's type says
+pub record Long (t : Tables) : Type 0 where
+  pub chunk : maxSymbols ≤ length (t .«chunk_encoding» .lengths)
+  pub colorEnds : maxSymbols ≤ length (t .«color_endpoint_delta» .lengths)
+  pub colorSels : maxSymbols ≤ length (t .«color_selector_delta» .lengths)
+  pub alphaEnds : maxSymbols ≤ length (t .«alpha_endpoint_delta» .lengths)
+  pub alphaSels : maxSymbols ≤ length (t .«alpha_selector_delta» .lengths)
 
 -- none is for more than n symbols
 pub record Few (c : Counts) (n : ℕ) : Type 0 where

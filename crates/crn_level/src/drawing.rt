@@ -10,7 +10,7 @@ use crn_chunks::Planes;
 use crn_chunks::Stop;
 use crn_chunks::Stream;
 use crn_format::Grid;
-use crn_format::Record;
+use crn_format::Header;
 use crn_formats::has_alpha;
 use crn_formats::has_color;
 use crn_symbol_codec::start;
@@ -19,7 +19,7 @@ use crn_unpacker::paint;
 ghost use mathlib.Core.Path.{_≡_};
 ghost use mathlib.Core.Bool.{true};
 ghost use mathlib.Core.List.{List};
-ghost use Prim.Native.Nat.{ℕ, _≤_};
+ghost use Prim.Native.Nat.{ℕ, _+_, _^_, _≤_, _<_};
 ghost use lib.ListN.{length};
 ghost use Rattle.crn_format.specs.Header.{kindOf};
 ghost use Rattle.crn_format.specs.Unpacking.{cutoutCount, drawnLevel};
@@ -28,7 +28,7 @@ ghost use Rattle.crn_chunks.specs.Meaning.{Coded};
 ghost use Rattle.crn_blocks.specs.Sheet.{Room, standing};
 ghost use Rattle.crn_unpacker.specs.Going.{given, Fit};
 ghost use Rattle.crn_level.specs.Unpacks.{Unpacks};
-ghost use Rattle.crn_level.specs.Tables.{countsOf, Few};
+ghost use Rattle.crn_level.specs.Tables.{tablesBy, recordBy, Few, Long, AllFair, Able};
 ghost use Rattle.crn_level.specs.Levels.{stopOf, Refuses, Finishes, Checked, endedBy};
 
 // The refusal of an answer, for the `else` of a `let`; 0 where there is none.
@@ -125,10 +125,18 @@ fn draw_chunks(
     finish(last.left, all, format, g, budget, dst)
 }
 
-// Of a level that is drawn in a moment most of the time would go into large tables: its lookups are of 8 bits.
-fn draw_small(
-    record: Record,
+// The level by decoder tables that are made in two lent arrays.
+fn draw_with<'a>(
+    h: Header,
     counts: Counts,
+    chunk: &'a [u8],
+    color_ends: &'a [u8],
+    color_sels: &'a [u8],
+    alpha_ends: &'a [u8],
+    alpha_sels: &'a [u8],
+    s: Sizes,
+    lookup: &mut [u32],
+    sorted: &mut [u16],
     seg: &[u8],
     color_endpoints: &[u32],
     color_selectors: &[u32],
@@ -138,88 +146,28 @@ fn draw_small(
     budget: &mut u64,
     dst: &mut [u8],
 ) -> Unpacked
-    requires { ⌜ Checked «record» (now seg) g (length (now dst)) ⌝ ∗ ⌜ counts ≡ countsOf («record» .tables) ⌝ ∗ ⌜ Few counts 1024 ⌝ }
-    ensures { λ r. ⌜ Unpacks (drawnLevel «record» (now (seg .entry)) (lentOf (now («color_endpoints» .entry)) (now («color_selectors» .entry)) (now («alpha_endpoints» .entry)) (now («alpha_selectors» .entry))) g (now (budget .entry)) (now (dst .entry))) (now (budget .entry)) (now (budget .exit)) (now (dst .exit)) r ⌝ }
+    requires { ⌜ Checked (recordBy h counts (now chunk) (now «color_ends») (now «color_sels») (now «alpha_ends») (now «alpha_sels»)) (now seg) g (length (now dst)) ⌝ }
+    requires { ⌜ AllFair counts (now chunk) (now «color_ends») (now «color_sels») (now «alpha_ends») (now «alpha_sels») (s .«sorted_step») ⌝ ∗ ⌜ Able s (length (now lookup)) (length (now sorted)) ⌝ }
+    ensures { λ r. ⌜ Unpacks (drawnLevel (recordBy h counts (now (chunk .entry)) (now («color_ends» .entry)) (now («color_sels» .entry)) (now («alpha_ends» .entry)) (now («alpha_sels» .entry))) (now (seg .entry)) (lentOf (now («color_endpoints» .entry)) (now («color_selectors» .entry)) (now («alpha_endpoints» .entry)) (now («alpha_selectors» .entry))) g (now (budget .entry)) (now (dst .entry))) (now (budget .entry)) (now (budget .exit)) (now (dst .exit)) r ⌝ }
 {
-    let mut lookup = [0u32; 1440];
-    let mut sorted = [0u16; 5120];
-    let s = Sizes {
-        most: 8,
-        lookup_step: 288,
-        sorted_step: 1024,
-    };
-    let h = record.header;
     make_tables(
         has_color(h.format),
         has_alpha(h.format),
         counts,
-        &record.tables.chunk_encoding.lengths,
-        &record.tables.color_endpoint_delta.lengths,
-        &record.tables.color_selector_delta.lengths,
-        &record.tables.alpha_endpoint_delta.lengths,
-        &record.tables.alpha_selector_delta.lengths,
+        chunk,
+        color_ends,
+        color_sels,
+        alpha_ends,
+        alpha_sels,
         s,
-        &mut lookup,
-        &mut sorted,
+        lookup,
+        sorted,
     );
     draw_chunks(
         h.format,
         planes_of(h, s),
-        &lookup,
-        &sorted,
-        seg,
-        color_endpoints,
-        color_selectors,
-        alpha_endpoints,
-        alpha_selectors,
-        g,
-        budget,
-        dst,
-    )
-}
-
-// Lookups of 11 bits, and room for every symbol.
-fn draw_large(
-    record: Record,
-    counts: Counts,
-    seg: &[u8],
-    color_endpoints: &[u32],
-    color_selectors: &[u32],
-    alpha_endpoints: &[u16],
-    alpha_selectors: &[u16],
-    g: Grid,
-    budget: &mut u64,
-    dst: &mut [u8],
-) -> Unpacked
-    requires { ⌜ Checked «record» (now seg) g (length (now dst)) ⌝ ∗ ⌜ counts ≡ countsOf («record» .tables) ⌝ }
-    ensures { λ r. ⌜ Unpacks (drawnLevel «record» (now (seg .entry)) (lentOf (now («color_endpoints» .entry)) (now («color_selectors» .entry)) (now («alpha_endpoints» .entry)) (now («alpha_selectors» .entry))) g (now (budget .entry)) (now (dst .entry))) (now (budget .entry)) (now (budget .exit)) (now (dst .exit)) r ⌝ }
-{
-    let mut lookup = [0u32; 10400];
-    let mut sorted = [0u16; 40960];
-    let s = Sizes {
-        most: 11,
-        lookup_step: 2080,
-        sorted_step: 8192,
-    };
-    let h = record.header;
-    make_tables(
-        has_color(h.format),
-        has_alpha(h.format),
-        counts,
-        &record.tables.chunk_encoding.lengths,
-        &record.tables.color_endpoint_delta.lengths,
-        &record.tables.color_selector_delta.lengths,
-        &record.tables.alpha_endpoint_delta.lengths,
-        &record.tables.alpha_selector_delta.lengths,
-        s,
-        &mut lookup,
-        &mut sorted,
-    );
-    draw_chunks(
-        h.format,
-        planes_of(h, s),
-        &lookup,
-        &sorted,
+        lookup,
+        sorted,
         seg,
         color_endpoints,
         color_selectors,
@@ -241,9 +189,26 @@ fn few(counts: Counts) -> bool
         & (counts.alpha_sels <= 1024)
 }
 
-// A level whose checks have passed.
-pub fn draw_level(
-    record: Record,
+// How many first bits are looked up in a grid of 16 x 16 blocks at most: few where a face has four chunks at most, since a large lookup
+// would take longer than the draws.
+fn few_bits(g: Grid) -> u64
+    ensures { λ r. ⌜ (0 < r) × (r ≤ 13) × (32 + 2 ^ r ≤ 288) ⌝ }
+{
+    if (g.columns <= 4) & (g.rows <= 4) {
+        return 5;
+    }
+    8
+}
+
+// A level whose checks have passed. No more is zeroed than its tables need: a small grid has small lookups, few symbols little room for them.
+pub fn draw_level<'a>(
+    h: Header,
+    counts: Counts,
+    chunk: &'a [u8],
+    color_ends: &'a [u8],
+    color_sels: &'a [u8],
+    alpha_ends: &'a [u8],
+    alpha_sels: &'a [u8],
     seg: &[u8],
     color_endpoints: &[u32],
     color_selectors: &[u32],
@@ -253,20 +218,57 @@ pub fn draw_level(
     budget: &mut u64,
     dst: &mut [u8],
 ) -> Unpacked
-    requires { ⌜ Checked «record» (now seg) g (length (now dst)) ⌝ }
-    ensures { λ r. ⌜ Unpacks (drawnLevel «record» (now (seg .entry)) (lentOf (now («color_endpoints» .entry)) (now («color_selectors» .entry)) (now («alpha_endpoints» .entry)) (now («alpha_selectors» .entry))) g (now (budget .entry)) (now (dst .entry))) (now (budget .entry)) (now (budget .exit)) (now (dst .exit)) r ⌝ }
+    requires { ⌜ Checked (recordBy h counts (now chunk) (now «color_ends») (now «color_sels») (now «alpha_ends») (now «alpha_sels»)) (now seg) g (length (now dst)) ⌝ }
+    requires { ⌜ Long (tablesBy counts (now chunk) (now «color_ends») (now «color_sels») (now «alpha_ends») (now «alpha_sels»)) ⌝ }
+    ensures { λ r. ⌜ Unpacks (drawnLevel (recordBy h counts (now (chunk .entry)) (now («color_ends» .entry)) (now («color_sels» .entry)) (now («alpha_ends» .entry)) (now («alpha_sels» .entry))) (now (seg .entry)) (lentOf (now («color_endpoints» .entry)) (now («color_selectors» .entry)) (now («alpha_endpoints» .entry)) (now («alpha_selectors» .entry))) g (now (budget .entry)) (now (dst .entry))) (now (budget .entry)) (now (budget .exit)) (now (dst .exit)) r ⌝ }
 {
-    let counts = Counts {
-        chunk: record.tables.chunk_encoding.count,
-        color_ends: record.tables.color_endpoint_delta.count,
-        color_sels: record.tables.color_selector_delta.count,
-        alpha_ends: record.tables.alpha_endpoint_delta.count,
-        alpha_sels: record.tables.alpha_selector_delta.count,
-    };
-    if few(counts) & (g.columns <= 16) & (g.rows <= 16) {
-        return draw_small(
-            record,
+    if few(counts) {
+        let mut sorted = [0u16; 5120];
+        if (g.columns <= 16) & (g.rows <= 16) {
+            let mut lookup = [0u32; 1440];
+            let s = Sizes {
+                most: few_bits(g),
+                lookup_step: 288,
+                sorted_step: 1024,
+            };
+            return draw_with(
+                h,
+                counts,
+                chunk,
+                color_ends,
+                color_sels,
+                alpha_ends,
+                alpha_sels,
+                s,
+                &mut lookup,
+                &mut sorted,
+                seg,
+                color_endpoints,
+                color_selectors,
+                alpha_endpoints,
+                alpha_selectors,
+                g,
+                budget,
+                dst,
+            );
+        }
+        let mut lookup = [0u32; 10400];
+        let s = Sizes {
+            most: 11,
+            lookup_step: 2080,
+            sorted_step: 1024,
+        };
+        return draw_with(
+            h,
             counts,
+            chunk,
+            color_ends,
+            color_sels,
+            alpha_ends,
+            alpha_sels,
+            s,
+            &mut lookup,
+            &mut sorted,
             seg,
             color_endpoints,
             color_selectors,
@@ -277,9 +279,24 @@ pub fn draw_level(
             dst,
         );
     }
-    draw_large(
-        record,
+    let mut lookup = [0u32; 10400];
+    let mut sorted = [0u16; 40960];
+    let s = Sizes {
+        most: 11,
+        lookup_step: 2080,
+        sorted_step: 8192,
+    };
+    draw_with(
+        h,
         counts,
+        chunk,
+        color_ends,
+        color_sels,
+        alpha_ends,
+        alpha_sels,
+        s,
+        &mut lookup,
+        &mut sorted,
         seg,
         color_endpoints,
         color_selectors,

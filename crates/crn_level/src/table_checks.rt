@@ -6,7 +6,7 @@ ghost use Prim.Native.Nat.{_≤_};
 ghost use lib.ListN.{length};
 ghost use Rattle.crn_format.specs.Limits.{maxSymbols};
 ghost use Rattle.crn_format.specs.Unpacking.{tableHolds, tablesHold};
-ghost use Rattle.crn_level.specs.Tables.{tableBy, tablesBy};
+ghost use Rattle.crn_level.specs.Tables.{tableBy, tablesBy, Long};
 
 // A table has no codes, or lengths that make a code.
 fn table_holds(count: u32, lengths: &[u8]) -> bool
@@ -32,7 +32,7 @@ pub fn tables_hold<'a>(
     alpha_ends: &'a [u8],
     alpha_sels: &'a [u8],
 ) -> bool
-    requires { ⌜ (maxSymbols ≤ length (now chunk)) × (maxSymbols ≤ length (now «color_ends»)) × (maxSymbols ≤ length (now «color_sels»)) × (maxSymbols ≤ length (now «alpha_ends»)) × (maxSymbols ≤ length (now «alpha_sels»)) ⌝ }
+    requires { ⌜ Long (tablesBy counts (now chunk) (now «color_ends») (now «color_sels») (now «alpha_ends») (now «alpha_sels»)) ⌝ }
     ensures { λ r. ⌜ r ≡ tablesHold (tablesBy counts (now (chunk .entry)) (now («color_ends» .entry)) (now («color_sels» .entry)) (now («alpha_ends» .entry)) (now («alpha_sels» .entry))) ⌝ }
 {
     table_holds(counts.chunk, chunk)

@@ -172,7 +172,13 @@ pub fn unpack_level(
     }
     let g = grid_of(h, level, pitch, distance);
     draw_level(
-        record,
+        h,
+        counts,
+        &record.tables.chunk_encoding.lengths,
+        &record.tables.color_endpoint_delta.lengths,
+        &record.tables.color_selector_delta.lengths,
+        &record.tables.alpha_endpoint_delta.lengths,
+        &record.tables.alpha_selector_delta.lengths,
         segment_of(file, h, level),
         color_endpoints,
         color_selectors,
