@@ -4,13 +4,12 @@ use mathlib.Core.Logic.{_⊎_, ⊎-elim}
 use mathlib.Core.List.{List}
 use Prim.Native.Nat.{ℕ, _+_, _*_, _/_, _%_, _≤_, _<_}
 use native.Mathlib.Omega.{arith}
-use borrow.Author.Tests.{lt-ltb, le-ltb}
 use lib.ListN.{length, getD}
 use lib.Seq.{sets, length-sets}
 use Rattle.crn_format.specs.Grid.{placeOf}
 use Rattle.crn_format.specs.declared.Grid.{Grid}
-use Rattle.crn_blocks.specs.Sheet.{In, Within, Room, Painted, Outside, Covered, turn, chunkNumber, putIn}
-use Rattle.crn_blocks.proofs.Places.{below-or, beside, sets-in, sets-out, apart, lies, room-kept, Same}
+use Rattle.crn_blocks.specs.Sheet.{In, Within, Room, Painted, Outside, Covered, turn, chunkNumber}
+use Rattle.crn_blocks.proofs.Places.{below-or, beside, sets-in, sets-out, apart, lies, Same}
 use Rattle.crn_blocks.proofs.Turns.{turn-tells, turn-of}
 
 -- a painting touches nothing outside the grid
@@ -22,6 +21,10 @@ outside-then p q = record { long = q .long ∙ p .long; kept = λ k off. q .kept
 
 pub outside-start : {g : Grid} {d : List ℕ} → Outside g d d
 outside-start = record { long = refl; kept = λ k off. refl }
+
+-- the turn of a position, by its chunk and its number there
+turn-here : (g : Grid) (f cx cy q : ℕ) → q < 4 → turn g f (2 * cx + q % 2) (2 * cy + q / 2) ≡ 4 * chunkNumber g f cx cy + q
+turn-here g f cx cy q four = turn-of g f (2 * cx + q % 2) (2 * cy + q / 2) cx cy (omega arith) (omega arith) ∙ omega arith
 
 module _ {g : Grid} {value : ℕ → List ℕ} where
   -- where no block of the grid has such a turn, there is nothing to paint
@@ -95,36 +98,20 @@ module _ {g : Grid} {value : ℕ → List ℕ} where
           let s : Same f′ x′ y′ f x y = turn-tells g f′ x′ y′ f x y (omega (arith, at′ .column)) (omega (arith, at′ .row)) (in-chunk .column) (in-chunk .row) (omega arith) in
           beyond (record { face = in-chunk .face; column = omega (arith, s .column, at′ .column); row = omega (arith, s .row, at′ .row) })
 
-  -- a position of a covering chunk, painted where it is one of the grid
-  pub put-one : {d e : List ℕ} (f x y : ℕ) (bs : List ℕ) → Room g (length d) → Covered g f (x / 2) (y / 2) → e ≡ putIn g f x y bs d
-      → bs ≡ value (turn g f x y) → length bs ≡ g .bytes → Painted g value (turn g f x y) (turn g f x y + 1) d e
-  unfolding putIn
-  put-one {d} {e} f x y bs room in-chunk put is long = rw put (⊎-elim column (λ hx. rw (le-ltb x (g .columns) hx) (nothing f x y in-chunk (λ i. omega (arith, i .column)))) (below-or x (g .columns)))
-    where
-      column : x < g .columns → Painted g value (turn g f x y) (turn g f x y + 1) d (putIn g f x y bs d)
-      column hx =
-          ⊎-elim
-          (λ hy. rw (lt-ltb x (g .columns) hx, lt-ltb y (g .rows) hy) (one f x y bs room (record { face = in-chunk .face; column = hx; row = hy }) is long))
-          (λ hy. rw (lt-ltb x (g .columns) hx, le-ltb y (g .rows) hy) (nothing f x y in-chunk (λ i. omega (arith, i .row))))
-          (below-or y (g .rows))
-
-  -- by its chunk and its number there
-  pub put-in : {d e : List ℕ} (f cx cy q x y : ℕ) (bs : List ℕ) → Room g (length d) → Covered g f cx cy → q < 4 → x ≡ 2 * cx + q % 2 → y ≡ 2 * cy + q / 2
-      → e ≡ putIn g f x y bs d → bs ≡ value (4 * chunkNumber g f cx cy + q) → length bs ≡ g .bytes
+  -- a position of a chunk that is one of the grid
+  pub put-in : {d e : List ℕ} (f cx cy q : ℕ) {at : ℕ} {bs : List ℕ} → Room g (length d) → q < 4 → In g f (2 * cx + q % 2) (2 * cy + q / 2)
+      → at ≡ placeOf g f (2 * cx + q % 2) (2 * cy + q / 2) → e ≡ sets d at bs → bs ≡ value (4 * chunkNumber g f cx cy + q) → length bs ≡ g .bytes
       → Painted g value (4 * chunkNumber g f cx cy + q) (4 * chunkNumber g f cx cy + q + 1) d e
-  put-in {d} {e} f cx cy q x y bs room in-chunk four ex ey put is long =
-      subst (λ (k : ℕ). Painted g value k (k + 1) d e) t (put-one f x y bs room covered put (is ∙ ap value (sym t)) long)
-    where
-      covered : Covered g f (x / 2) (y / 2)
-      covered = record { face = in-chunk .face; column = omega (arith, in-chunk .column); row = omega (arith, in-chunk .row) }
+  put-in {d} {e} f cx cy q {at} {bs} room four here is put of long =
+      let t = turn-here g f cx cy q four in
+      subst (λ (k : ℕ). Painted g value k (k + 1) d e) t
+      (subst (λ (l : List ℕ). Painted g value (turn g f (2 * cx + q % 2) (2 * cy + q / 2)) (turn g f (2 * cx + q % 2) (2 * cy + q / 2) + 1) d l)
+      (sym (put ∙ ap (λ (k : ℕ). sets d k bs) is))
+      (one f (2 * cx + q % 2) (2 * cy + q / 2) bs room here (of ∙ ap value (sym t)) long))
 
-      t : turn g f x y ≡ 4 * chunkNumber g f cx cy + q
-      t = turn-of g f x y cx cy (omega arith) (omega arith) ∙ omega arith
-
-  -- one position more of a chunk
-  pub put-more : {a : ℕ} {c d e : List ℕ} (f cx cy q x y : ℕ) (bs : List ℕ) → Room g (length c) → Covered g f cx cy → q < 4
-      → a ≤ 4 * chunkNumber g f cx cy + q → x ≡ 2 * cx + q % 2 → y ≡ 2 * cy + q / 2 → Painted g value a (4 * chunkNumber g f cx cy + q) c d
-      → e ≡ putIn g f x y bs d → bs ≡ value (4 * chunkNumber g f cx cy + q) → length bs ≡ g .bytes
-      → Painted g value a (4 * chunkNumber g f cx cy + (q + 1)) c e
-  put-more {a} {c} {d} {e} f cx cy q x y bs room in-chunk four from ex ey before put is long =
-      until (omega arith) (then room from (omega arith) before (put-in f cx cy q x y bs (room-kept room (before .long)) in-chunk four ex ey put is long))
+  -- one beyond it
+  pub skipped : {d : List ℕ} (f cx cy q : ℕ) → Covered g f cx cy → q < 4 → (In g f (2 * cx + q % 2) (2 * cy + q / 2) → ⊥)
+      → Painted g value (4 * chunkNumber g f cx cy + q) (4 * chunkNumber g f cx cy + q + 1) d d
+  skipped {d} f cx cy q in-chunk four beyond =
+      let covered : Covered g f ((2 * cx + q % 2) / 2) ((2 * cy + q / 2) / 2) = record { face = in-chunk .face; column = omega (arith, in-chunk .column); row = omega (arith, in-chunk .row) } in
+      subst (λ (k : ℕ). Painted g value k (k + 1) d d) (turn-here g f cx cy q four) (nothing f (2 * cx + q % 2) (2 * cy + q / 2) covered beyond)

@@ -8,9 +8,9 @@ use native.Mathlib.Decide.{decLt}
 use native.Mathlib.Omega.{arith}
 use lib.ListN.{length, getD, set, length-set}
 use lib.Seq.{sets, getD-set-same, getD-set-other}
-use Rattle.crn_format.specs.Grid.{placeOf, little}
+use Rattle.crn_format.specs.Grid.{placeOf}
 use Rattle.crn_format.specs.declared.Grid.{Grid}
-use Rattle.crn_blocks.specs.Sheet.{In, Within, Room, bytesOf}
+use Rattle.crn_blocks.specs.Sheet.{In, Within, Room}
 
 pub below-or : (a b : ℕ) → (a < b) ⊎ (b ≤ a)
 below-or a b = go (decLt a b)
@@ -132,8 +132,3 @@ apart room at at′ w w′ =
 -- room goes by the length alone
 pub room-kept : {g : Grid} {m n : ℕ} → Room g m → n ≡ m → Room g n
 room-kept {g} {m} {n} room is = rw is room
-
--- a block has as many bytes as it is to have
-pub bytes-length : {g : Grid} {n : ℕ} (lo hi : ℕ) → Room g n → length (bytesOf g lo hi) ≡ g .bytes
-unfolding bytesOf little
-bytes-length lo hi room = ⊎-elim (λ e. rw e) (λ e. rw e) (room .size)

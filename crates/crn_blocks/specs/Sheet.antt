@@ -1,14 +1,12 @@
 -- Where the blocks of a grid lie in the destination, in which order they are visited, and what it is that a part of them is painted.
 use Prim.Native.Nat.{ℕ, _+_, _*_, _-_, _/_, _%_, _≤_, _<_}
 use mathlib.Core.Path.{_≡_}
-use mathlib.Core.Bool.{Bool, true, false}
 use mathlib.Core.Logic.{_⊎_}
-use mathlib.Core.List.{List, [], _∷_, _++_}
+use mathlib.Core.List.{List}
 use lib.ListN.{length, getD, take, drop}
-use lib.Dec.{eqb, ltb}
-use lib.Seq.{sets}
+use lib.Dec.{eqb}
 use Rattle.crn_format.specs.Choice.{pick}
-use Rattle.crn_format.specs.Grid.{chunkColumns, chunkRows, chunkOf, positionOf, placeOf, little}
+use Rattle.crn_format.specs.Grid.{chunkColumns, chunkRows, chunkOf, positionOf, placeOf}
 use Rattle.crn_format.specs.Unpacking.{reach}
 use Rattle.crn_format.specs.declared.Grid.{Grid}
 
@@ -63,15 +61,6 @@ pub record Covered (g : Grid) (f cx cy : ℕ) : Type 0 where
   pub face : f < g .faces
   pub column : cx < chunkColumns g
   pub row : cy < chunkRows g
-
--- the bytes of a block of 8 or 16, of its two halves
-unfoldable pub bytesOf : Grid → ℕ → ℕ → List ℕ
-unfolding little
-bytesOf g lo hi = little 8 lo ++ pick (eqb (g .bytes) 16) (little 8 hi) []
-
--- a block is put where it is one of the grid
-unfoldable pub putIn : Grid → ℕ → ℕ → ℕ → List ℕ → List ℕ → List ℕ
-putIn g f x y bs d = pick (ltb x (g .columns)) (pick (ltb y (g .rows)) (sets d (placeOf g f x y) bs) d) d
 
 -- the bytes that stand in a block's place
 abbrev pub standing : Grid → List ℕ → ℕ → ℕ → ℕ → List ℕ

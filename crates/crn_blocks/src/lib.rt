@@ -1,9 +1,11 @@
 // The blocks of a grid in a lent destination (document 01, Chunks): made of palette entries, put in their places, cleared and counted.
 ghost use mathlib.Core.Path.{_≡_};
+ghost use mathlib.Core.Logic.{_⊎_};
 ghost use Prim.Native.Nat.{_+_, _*_, _<_, _≤_};
-ghost use lib.ListN.{length, getD};
-ghost use Rattle.crn_format.specs.Grid.{color, alpha, painted, facePainted, rowPainted, blank, cutouts as «cutoutsOf», faceCutouts, rowCutouts};
-ghost use Rattle.crn_blocks.specs.Sheet.{Room, bytesOf, putIn, standing};
+ghost use lib.ListN.{length, getD, replicate};
+ghost use lib.Seq.{sets};
+ghost use Rattle.crn_format.specs.Grid.{color, alpha, little, painted, facePainted, rowPainted, blank, cutouts as «cutoutsOf», faceCutouts, rowCutouts};
+ghost use Rattle.crn_blocks.specs.Sheet.{Room, standing};
 ghost use Rattle.crn_blocks.specs.Halves.{Half};
 use crn_format::Grid;
 
@@ -49,19 +51,29 @@ pub fn alpha_half(ends: &[u16], sels: &[u16], e: u64, s: u64) -> u64
                 + 65536 * (entry16(sels, 3 * s + 1) + 65536 * entry16(sels, 3 * s + 2)))
 }
 
-// Puts a block in its place, where it is one of the grid.
-pub fn put_block(dst: &mut [u8], g: Grid, face: usize, x: usize, y: usize, lo: u64, hi: u64)
-    requires { ⌜ Room g (length (now dst)) ⌝ ∗ ⌜ face < g .faces ⌝ }
-    ensures { λ _. ⌜ now (dst .exit) ≡ putIn g face x y (bytesOf g lo hi) (now (dst .entry)) ⌝ }
+// Writes the eight bytes of v, the lowest first. The compiler makes one store of them.
+pub fn put_eight(dst: &mut [u8], at: usize, v: u64)
+    requires { ⌜ at + 8 ≤ length (now dst) ⌝ }
+    ensures { λ _. ⌜ now (dst .exit) ≡ sets (now (dst .entry)) at (little 8 v) ⌝ }
 {
-    if x < g.columns {
-        if y < g.rows {
-            let at = face * g.distance + y * g.pitch + x * g.bytes;
-            crn_utils::put_little64(dst, at, lo);
-            if g.bytes == 16 {
-                crn_utils::put_little64(dst, at + 8, hi);
-            }
-        }
+    dst[at] = (v % 256) as u8;
+    dst[at + 1] = (v / 256 % 256) as u8;
+    dst[at + 2] = (v / 65536 % 256) as u8;
+    dst[at + 3] = (v / 16777216 % 256) as u8;
+    dst[at + 4] = (v / 4294967296 % 256) as u8;
+    dst[at + 5] = (v / 1099511627776 % 256) as u8;
+    dst[at + 6] = (v / 281474976710656 % 256) as u8;
+    dst[at + 7] = (v / 72057594037927936 % 256) as u8;
+}
+
+// A block of 8 or 16 bytes, zeroed.
+fn clear_block(dst: &mut [u8], at: usize, bytes: usize)
+    requires { ⌜ (bytes ≡ 8) ⊎ (bytes ≡ 16) ⌝ ∗ ⌜ at + bytes ≤ length (now dst) ⌝ }
+    ensures { λ _. ⌜ now (dst .exit) ≡ sets (now (dst .entry)) at (replicate bytes 0) ⌝ }
+{
+    put_eight(dst, at, 0);
+    if bytes == 16 {
+        put_eight(dst, at + 8, 0);
     }
 }
 
@@ -71,8 +83,10 @@ fn clear_row(dst: &mut [u8], g: Grid, face: usize, y: usize)
     ensures { λ _. ⌜ now (dst .exit) ≡ rowPainted g (blank g) face y (g .columns) (now (dst .entry)) ⌝ }
 {
     let mut x = 0;
+    let mut at = face * g.distance + y * g.pitch;
     while x < g.columns {
-        put_block(dst, g, face, x, y, 0, 0);
+        clear_block(dst, at, g.bytes);
+        at += g.bytes;
         x += 1;
     }
 }

@@ -1,15 +1,17 @@
 // The blocks of a chunk that was read, put in their places.
 ghost use mathlib.Core.Path.{_≡_};
-ghost use mathlib.Core.Bool.{true};
-ghost use Prim.Native.Nat.{_+_, _*_, _<_};
+ghost use Prim.Native.Nat.{_+_, _*_, _<_, _≤_};
 ghost use lib.ListN.{length};
+ghost use lib.Seq.{sets};
+ghost use lib.Dec.{ltb};
+ghost use Rattle.crn_format.specs.Choice.{pick};
 ghost use Rattle.crn_blocks.specs.Sheet.{Covered, Painted, chunkNumber};
 ghost use Rattle.crn_blocks.specs.Halves.{Half};
 ghost use Rattle.crn_unpacker.specs.Going.{shadeOf};
 ghost use Rattle.crn_unpacker.specs.Blocks.{held, blockIn, Placeable};
 use crn_blocks::alpha_half;
 use crn_blocks::color_half;
-use crn_blocks::put_block;
+use crn_blocks::put_eight;
 use crn_chunks::Planes;
 use crn_chunks::Side;
 use crn_format::Grid;
@@ -33,26 +35,6 @@ fn plane_half(
     color_half(cends, csels, e, s)
 }
 
-// The second plane's, where there is one.
-fn second_half(
-    cends: &[u32],
-    csels: &[u32],
-    aends: &[u16],
-    asels: &[u16],
-    ps: Planes,
-    e: u64,
-    s: u64,
-) -> u64
-    ensures { λ r. ⌜ (ps .two ≡ true → Half (shadeOf (held (now (cends .entry)) (now (csels .entry)) (now (aends .entry)) (now (asels .entry))) (ps .second)) e s r) ⌝ }
-{
-    let two = ps.two;
-    if two {
-        let second = ps.second;
-        return plane_half(cends, csels, aends, asels, second, e, s);
-    }
-    0
-}
-
 // The block at a position: 0 left-top, 1 right-top, 2 left-bottom, 3 right-bottom.
 fn block(
     dst: &mut [u8],
@@ -62,24 +44,34 @@ fn block(
     aends: &[u16],
     asels: &[u16],
     ps: Planes,
-    g: Grid,
     e: u32,
-    face: usize,
-    cx: usize,
-    cy: usize,
+    at: usize,
     q: usize,
 )
-    requires { ⌜ Placeable ps g e (length (now dst)) ⌝ ∗ ⌜ Covered g face cx cy ⌝ ∗ ⌜ q < 4 ⌝ }
-    ensures { λ _. ⌜ Painted g (blockIn (held (now (cends .entry)) (now (csels .entry)) (now (aends .entry)) (now (asels .entry))) ps e (now (out .entry))) (4 * chunkNumber g face cx cy + q) (4 * chunkNumber g face cx cy + q + 1) (now (dst .entry)) (now (dst .exit)) ⌝ }
+    requires { ⌜ e < 8 ⌝ ∗ ⌜ q < 4 ⌝ ∗ ⌜ at + pick (ps .two) 16 8 ≤ length (now dst) ⌝ }
+    ensures { λ _. ⌜ now (dst .exit) ≡ sets (now (dst .entry)) at (blockIn (held (now (cends .entry)) (now (csels .entry)) (now (aends .entry)) (now (asels .entry))) ps e (now (out .entry)) q) ⌝ }
 {
     let tile = crn_consts::tile(e, q as u32) as usize;
     let first = ps.first;
     let lo = plane_half(cends, csels, aends, asels, first, out[tile], out[8 + q]);
-    let hi = second_half(cends, csels, aends, asels, ps, out[4 + tile], out[12 + q]);
-    put_block(dst, g, face, 2 * cx + q % 2, 2 * cy + q / 2, lo, hi);
+    put_eight(dst, at, lo);
+    let two = ps.two;
+    if two {
+        let second = ps.second;
+        let hi = plane_half(
+            cends,
+            csels,
+            aends,
+            asels,
+            second,
+            out[4 + tile],
+            out[12 + q],
+        );
+        put_eight(dst, at + 8, hi);
+    }
 }
 
-// The four blocks of a chunk.
+// The four blocks of a chunk, those of them that lie inside the grid.
 pub fn blocks(
     dst: &mut [u8],
     out: &[u64; 16],
@@ -93,27 +85,19 @@ pub fn blocks(
     face: usize,
     cx: usize,
     cy: usize,
+    right: bool,
+    bottom: bool,
 )
-    requires { ⌜ Placeable ps g e (length (now dst)) ⌝ ∗ ⌜ Covered g face cx cy ⌝ }
+    requires { ⌜ Placeable ps g e (length (now dst)) ⌝ ∗ ⌜ Covered g face cx cy ⌝ ∗ ⌜ (right ≡ ltb (2 * cx + 1) (g .columns)) × (bottom ≡ ltb (2 * cy + 1) (g .rows)) ⌝ }
     ensures { λ _. ⌜ Painted g (blockIn (held (now (cends .entry)) (now (csels .entry)) (now (aends .entry)) (now (asels .entry))) ps e (now (out .entry))) (4 * chunkNumber g face cx cy) (4 * chunkNumber g face cx cy + 4) (now (dst .entry)) (now (dst .exit)) ⌝ }
 {
+    let base = face * g.distance + 2 * cy * g.pitch + 2 * cx * g.bytes;
     let mut q = 0;
     while q < 4 {
-        block(
-            dst,
-            out,
-            cends,
-            csels,
-            aends,
-            asels,
-            ps,
-            g,
-            e,
-            face,
-            cx,
-            cy,
-            q,
-        );
+        if (right | (q % 2 == 0)) & (bottom | (q < 2)) {
+            let at = base + q / 2 * g.pitch + q % 2 * g.bytes;
+            block(dst, out, cends, csels, aends, asels, ps, e, at, q);
+        }
         q += 1;
     }
 }

@@ -42,21 +42,28 @@ fn chunk(
 {
     let columns = g.columns;
     let rows = g.rows;
-    let a = read_chunk(
-        lookup,
-        sorted,
-        seg,
-        ps,
-        2 * cx + 1 < columns,
-        2 * cy + 1 < rows,
-        r,
-        s,
-        out,
-    );
+    let right = 2 * cx + 1 < columns;
+    let bottom = 2 * cy + 1 < rows;
+    let a = read_chunk(lookup, sorted, seg, ps, right, bottom, r, s, out);
     match a {
         Chunked::Refused(x) => Went::Stopped(x),
         Chunked::Read(e, n, t) => {
-            blocks(dst, out, cends, csels, aends, asels, ps, g, e, face, cx, cy);
+            blocks(
+                dst,
+                out,
+                cends,
+                csels,
+                aends,
+                asels,
+                ps,
+                g,
+                e,
+                face,
+                cx,
+                cy,
+                right,
+                bottom,
+            );
             Went::On(n, t)
         }
     }

@@ -1,15 +1,17 @@
--- The halves are those of the position in the chunk that was read, and put in its place they paint its turn.
-use Prim.Native.Nat.{_+_, _*_}
-use mathlib.Core.Path.{refl}
+-- The halves are those of the position in the chunk that was read, one after the other.
+use mathlib.Core.Path.{ap, _∙_}
 use native.Mathlib.Omega.{arith}
-use borrow.Author.Needs.{needs}
-use Rattle.crn_blocks.specs.Sheet.{chunkNumber}
-use Rattle.crn_blocks.proofs.Places.{bytes-length}
-use Rattle.crn_blocks.proofs.Paint.{put-in}
+use lib.Seq.{sets}
+use Rattle.crn_format.specs.Opening.{Palettes}
+use Rattle.crn_blocks.proofs.Putting.{put-both}
 use Rattle.crn_unpacker.specs.Blocks.{held}
-use Rattle.crn_unpacker.proofs.Positions.{block-bytes}
+use Rattle.crn_unpacker.proofs.Positions.{of-one, of-two, eight-fit, sixteen-fit}
+use borrow.Author.Needs.{needs}
 use Rattle.crn_unpacker.proofs.blocks.block.Statement.{statement}
 use Rattle.crn_unpacker.proofs.blocks.block.Tie as tie
+
+abbrev palettes : tie.Start → Palettes
+palettes s = held (s .args .cends .now) (s .args .csels .now) (s .args .aends .now) (s .args .asels .now)
 
 cast-tile : tie.Need-cast-tile
 cast-tile c = search needs
@@ -38,55 +40,59 @@ element-copy-out-plane-half-2 c = search needs
 plane-half-requires : tie.Need-plane-half-requires
 plane-half-requires c κs = search needs
 
-add-second-half : tie.Need-add-second-half
-add-second-half c = search needs
+put-eight-requires : tie.Need-put-eight-requires
+put-eight-requires c κs = let s = c .before .before .before .before .before .before .before .before .before .before .before in eight-fit (s .args .ps .two) _ _ (s .pre .1 .1)
 
-mul-second-half : tie.Need-mul-second-half
-mul-second-half c = search needs
+add-plane-half-2 : tie.Need-add-plane-half-2
+add-plane-half-2 c = search needs
 
-element-copy-out-second-half : tie.Need-element-copy-out-second-half
-element-copy-out-second-half c = search needs
+mul-plane-half-3 : tie.Need-mul-plane-half-3
+mul-plane-half-3 c = search needs
 
-add-second-half-2 : tie.Need-add-second-half-2
-add-second-half-2 c = search needs
+element-copy-out-plane-half-3 : tie.Need-element-copy-out-plane-half-3
+element-copy-out-plane-half-3 c = search needs
 
-mul-second-half-2 : tie.Need-mul-second-half-2
-mul-second-half-2 c = search needs
+add-plane-half-3 : tie.Need-add-plane-half-3
+add-plane-half-3 c = search needs
 
-element-copy-out-second-half-2 : tie.Need-element-copy-out-second-half-2
-element-copy-out-second-half-2 c = search needs
+mul-plane-half-4 : tie.Need-mul-plane-half-4
+mul-plane-half-4 c = search needs
 
-second-half-requires : tie.Need-second-half-requires
-second-half-requires c κs = search needs
+element-copy-out-plane-half-4 : tie.Need-element-copy-out-plane-half-4
+element-copy-out-plane-half-4 c = search needs
 
-mul-put-block : tie.Need-mul-put-block
-mul-put-block c = search needs
+plane-half-requires-2 : tie.Need-plane-half-requires-2
+plane-half-requires-2 c κs = search needs
 
-add-put-block : tie.Need-add-put-block
-add-put-block c = search needs
+add-put-eight : tie.Need-add-put-eight
+add-put-eight c = search needs
 
-mul-put-block-2 : tie.Need-mul-put-block-2
-mul-put-block-2 c = search needs
-
-add-put-block-2 : tie.Need-add-put-block-2
-add-put-block-2 c = search needs
-
-put-block-requires : tie.Need-put-block-requires
-put-block-requires c κs = search needs
+put-eight-requires-2 : tie.Need-put-eight-requires-2
+put-eight-requires-2 c κs =
+    let s = c .before .before .before .before .before .before .before .before .before .before .before .before .before .before .before .before .before .before .before .before in
+    omega (arith, sixteen-fit (s .args .ps .two) _ _ (c .before .before .before .before .before .if1 .taken) (s .pre .1 .1), c .before .before .before .before .before .before .before .before .put-eight .kept .0)
 
 same-length : tie.Need-same-length
 same-length c = search needs
 
 returns : tie.Need-returns
 returns c =
-    let s = c .before .before .before .before .before .before .before .before .before .before .before .before .before .before .before .before .before in
+    let s = c .before .before .before .before .before .before .before .before .before .before .before .before .before .before .before .before .before .before .before .before .before .before .before in
     let a = s .args in
-    let t = 4 * chunkNumber (a .g) (a .face) (a .cx) (a .cy) + a .q in
-    put-in (a .face) (a .cx) (a .cy) (a .q) _ _ _ (s .pre .0 .room) (s .pre .1 .0) (s .pre .1 .1) refl refl (c .before .before .put-block .ensures)
-    (block-bytes (held (a .cends .now) (a .csels .now) (a .aends .now) (a .asels .now)) (a .ps) (a .g) (a .e) (a .out .now) t (a .q) (c .before .before .before .before .before .before .before .before .before .before .before .tile .result) _ _
-    (s .pre .0 .bytes) (s .pre .0 .known) (s .pre .1 .1) (omega (arith, s .pre .1 .1)) (c .before .before .before .before .before .before .before .before .before .before .before .tile .ensures .0) (c .before .before .before .before .before .before .before .plane-half .ensures)
-    (c .before .before .before .before .second-half .ensures))
-    (bytes-length _ _ (s .pre .0 .room))
+    let t = c .before .before .before .before .before .before .before .before .before .before .before .before .before .before .before .before .before .tile in
+    put-both (a .dst .now) (a .at) _ _ (c .before .before .before .before .before .before .before .before .before .before .before .put-eight .ensures) (c .before .before .put-eight2 .ensures)
+    (of-two (palettes s) (a .ps) (a .e) (a .out .now) (a .q) (t .result) (s .pre .0) (s .pre .1 .0) (t .ensures .0) (c .before .before .before .before .before .before .before .before .before .before .before .before .before .plane-half .result) (c .before .before .before .before .plane-half2 .result) (c .before .before .before .before .before .before .before .before .if1 .taken) (c .before .before .before .before .before .before .before .before .before .before .before .before .before .plane-half .ensures) (c .before .before .before .before .plane-half2 .ensures))
+
+same-length-2 : tie.Need-same-length-2
+same-length-2 c = search needs
+
+returns-2 : tie.Need-returns-2
+returns-2 c =
+    let s = c .before .before .before .before .before .before .before .before .before .before .before .before .before .before .before in
+    let a = s .args in
+    let t = c .before .before .before .before .before .before .before .before .before .tile in
+    c .before .before .before .put-eight .ensures
+    ∙ ap (sets (a .dst .now) (a .at)) (of-one (palettes s) (a .ps) (a .e) (a .out .now) (a .q) (t .result) (s .pre .0) (s .pre .1 .0) (t .ensures .0) (c .before .before .before .before .before .plane-half .result) (c .if1 .left) (c .before .before .before .before .before .plane-half .ensures))
 
 pub block-spec : {M : Type 1} → statement M
 block-spec =
@@ -101,17 +107,17 @@ block-spec =
     mul-plane-half-2
     element-copy-out-plane-half-2
     plane-half-requires
-    add-second-half
-    mul-second-half
-    element-copy-out-second-half
-    add-second-half-2
-    mul-second-half-2
-    element-copy-out-second-half-2
-    second-half-requires
-    mul-put-block
-    add-put-block
-    mul-put-block-2
-    add-put-block-2
-    put-block-requires
+    put-eight-requires
+    add-plane-half-2
+    mul-plane-half-3
+    element-copy-out-plane-half-3
+    add-plane-half-3
+    mul-plane-half-4
+    element-copy-out-plane-half-4
+    plane-half-requires-2
+    add-put-eight
+    put-eight-requires-2
     same-length
-    returns)
+    returns
+    same-length-2
+    returns-2)

@@ -1,37 +1,132 @@
--- The invariant: the positions before q are painted.
-use Prim.Native.Nat.{_+_, _*_, _-_, _≤_}
+-- The invariant: the positions before q are painted, those of them that lie inside the grid.
+use Prim.Native.Nat.{_+_, _*_, _-_, _/_, _%_, _≤_}
+use mathlib.Core.Path.{_≡_, sym, _∙_}
+use lib.ListN.{length}
+use Rattle.crn_format.specs.Grid.{placeOf}
+use mathlib.Core.Logic.{⊎-elim}
 use native.Mathlib.Omega.{arith}
-use Rattle.crn_blocks.specs.Sheet.{Painted, chunkNumber}
-use Rattle.crn_blocks.proofs.Places.{room-kept}
-use Rattle.crn_blocks.proofs.Paint.{start, then, until}
+use Rattle.crn_blocks.specs.Sheet.{In, Painted, chunkNumber}
+use Rattle.crn_blocks.proofs.Places.{Lies, lies, room-kept}
+use Rattle.crn_blocks.proofs.Paint.{start, then, until, put-in, skipped}
 use Rattle.crn_unpacker.specs.Blocks.{held, blockIn}
+use Rattle.crn_unpacker.proofs.Positions.{same-block, block-sized, in-grid, off-grid, place-by, first-in}
 use Rattle.crn_unpacker.proofs.blocks.blocks.Statement.{statement}
 use Rattle.crn_unpacker.proofs.blocks.blocks.Tie as tie
+use Rattle.crn_unpacker.proofs.blocks.blocks.Reads as reads
+use Rattle.crn_unpacker.proofs.blocks.blocks.Lts as lts
+use Rattle.crn_unpacker.proofs.blocks.block.Reads as block-reads
 
 abbrev Inv-loop : tie.InvT-loop
-Inv-loop dst₀ out cends csels aends asels ps g e face cx cy q₀ dst q = (q ≤ 4) × Painted g (blockIn (held cends csels aends asels) ps e out) (4 * chunkNumber g face cx cy) (4 * chunkNumber g face cx cy + q) dst₀ dst
+Inv-loop dst₀ out cends csels aends asels ps g e face cx cy right bottom base q₀ dst q =
+    (q ≤ 4) × Painted g (blockIn (held cends csels aends asels) ps e out) (4 * chunkNumber g face cx cy) (4 * chunkNumber g face cx cy + q) dst₀ dst
 
 abbrev μ-loop : tie.MeasureT-loop
-μ-loop dst₀ out cends csels aends asels ps g e face cx cy q₀ dst q = 4 - q
+μ-loop dst₀ out cends csels aends asels ps g e face cx cy right bottom base q₀ dst q = 4 - q
+
+abbrev Start : Type 0
+Start = tie.Start Inv-loop μ-loop
+
+-- the chunk's first block lies in the destination
+first : (s : Start) → Lies (s .args .g) (s .args .face) (2 * s .args .cx) (2 * s .args .cy) (length (s .args .dst .now))
+first s = lies (s .pre .0 .room) (first-in (s .args .g) (s .args .face) (s .args .cx) (s .args .cy) (s .pre .1 .0))
+
+mul-base : tie.Need-mul-base Inv-loop μ-loop
+mul-base c = let l = first (c .before .before .before .before .before .before) in omega (arith, c .before .before .before .before .before .before .good .0 .0)
+
+mul-base-2 : tie.Need-mul-base-2 Inv-loop μ-loop
+mul-base-2 c = omega (arith, c .before .before .before .before .before .before .pre .1 .0 .row, c .before .before .before .before .before .before .pre .0 .room .few-rows)
+
+mul-base-3 : tie.Need-mul-base-3 Inv-loop μ-loop
+mul-base-3 c = let l = first (c .before .before .before .before .before .before .before) in omega (arith, c .before .before .before .before .before .before .before .good .0 .0)
+
+add-base : tie.Need-add-base Inv-loop μ-loop
+add-base c = let l = first (c .before .before .before .before .before .before .before) in omega (arith, c .before .before .before .before .before .before .before .good .0 .0)
+
+mul-base-4 : tie.Need-mul-base-4 Inv-loop μ-loop
+mul-base-4 c = omega (arith, c .before .before .before .before .before .before .before .pre .1 .0 .column, c .before .before .before .before .before .before .before .pre .0 .room .few-columns)
+
+mul-base-5 : tie.Need-mul-base-5 Inv-loop μ-loop
+mul-base-5 c = let l = first (c .before .before .before .before .before .before .before .before) in omega (arith, c .before .before .before .before .before .before .before .before .good .0 .0)
+
+add-base-2 : tie.Need-add-base-2 Inv-loop μ-loop
+add-base-2 c = let l = first (c .before .before .before .before .before .before .before .before) in omega (arith, c .before .before .before .before .before .before .before .before .good .0 .0)
 
 loop-holds : tie.Need-loop-holds Inv-loop μ-loop
 loop-holds c = (omega arith, until (omega arith) start)
 
+abbrev Inside : Type 0
+Inside = tie.Then1 Inv-loop μ-loop
+
+abbrev entry : Inside → Start
+entry c = c .before .before .before .before .before .before .before .before .before .before .before
+
+here : (c : Inside) → In (entry c .args .g) (entry c .args .face) (2 * entry c .args .cx + c .before .before .loop .q % 2) (2 * entry c .args .cy + c .before .before .loop .q / 2)
+here c =
+    let a = entry c .args in
+    in-grid (a .g) (a .face) (a .cx) (a .cy) (c .before .before .loop .q) (a .right) (a .bottom) (entry c .pre .1 .0) (c .before .loop-test .taken) (entry c .pre .1 .1) (c .if1 .taken)
+
+there : (c : Inside) → Lies (entry c .args .g) (entry c .args .face) (2 * entry c .args .cx + c .before .before .loop .q % 2) (2 * entry c .args .cy + c .before .before .loop .q / 2) (length (entry c .args .dst .now))
+there c = lies (entry c .pre .0 .room) (here c)
+
+-- where its block starts
+abbrev Placed : Inside → Type 0
+Placed c =
+    entry c .args .face * entry c .args .g .distance + 2 * entry c .args .cy * entry c .args .g .pitch + 2 * entry c .args .cx * entry c .args .g .bytes
+    + c .before .before .loop .q / 2 * entry c .args .g .pitch + c .before .before .loop .q % 2 * entry c .args .g .bytes
+    ≡ placeOf (entry c .args .g) (entry c .args .face) (2 * entry c .args .cx + c .before .before .loop .q % 2) (2 * entry c .args .cy + c .before .before .loop .q / 2)
+
+placed : (c : Inside) → Placed c
+placed c = let a = entry c .args in place-by (a .g) (a .face) (a .cx) (a .cy) (c .before .before .loop .q)
+
+mul-at : tie.Need-mul-at Inv-loop μ-loop
+mul-at c = let l = there (c .before) in omega (arith, placed (c .before), c .before .before .before .before .before .before .before .before .before .before .before .before .good .0 .0)
+
+add-at : tie.Need-add-at Inv-loop μ-loop
+add-at c = let l = there (c .before) in omega (arith, placed (c .before), c .before .before .before .before .before .before .before .before .before .before .before .before .good .0 .0)
+
+mul-at-2 : tie.Need-mul-at-2 Inv-loop μ-loop
+mul-at-2 c = let l = there (c .before .before) in omega (arith, placed (c .before .before), c .before .before .before .before .before .before .before .before .before .before .before .before .before .good .0 .0)
+
+add-at-2 : tie.Need-add-at-2 Inv-loop μ-loop
+add-at-2 c = let l = there (c .before .before) in omega (arith, placed (c .before .before), c .before .before .before .before .before .before .before .before .before .before .before .before .before .good .0 .0)
+
 block-requires : tie.Need-block-requires Inv-loop μ-loop
 block-requires c κs =
-    let s = c .before .before .before .before .before .before .before .before in
-    (record { bytes = s .pre .0 .bytes; room = room-kept (s .pre .0 .room) (c .before .before .loop .inv .1 .long); known = s .pre .0 .known }, (s .pre .1, c .before .loop-test .taken))
+    let s = c .before .before .before .before .before .before .before .before .before .before .before .before .before .before in
+    let l = there (c .before .before .before) in
+    (s .pre .0 .known, (c .before .before .before .before .loop-test .taken, omega (arith, placed (c .before .before .before), c .before .before .before .before .before .loop .inv .1 .long, s .pre .0 .bytes)))
 
 add-q : tie.Need-add-q Inv-loop μ-loop
-add-q c = omega (arith, c .before .before .before .before .loop-test .taken)
+add-q c = omega (arith, c .before .loop-test .taken)
 
 loop-less : tie.Need-loop-less Inv-loop μ-loop
-loop-less c = omega (arith, c .before .before .before .before .loop-test .taken)
+loop-less c = omega (arith, c .before .loop-test .taken)
 
 loop-again : tie.Need-loop-again Inv-loop μ-loop
 loop-again c =
-    let i = c .before .before .before .before .before .loop .inv in
-    (omega (arith, c .before .before .before .before .loop-test .taken), until (omega arith) (then (c .before .before .before .before .before .before .before .before .before .before .before .pre .0 .room) (omega arith) (omega arith) (i .1) (c .before .before .block .ensures)))
+    let s = c .before .before .before .before .before .before .before .before .before .before .before in
+    let a = s .args in
+    let q = c .before .before .loop .q in
+    let i = c .before .before .loop .inv in
+    let t = c .before .loop-test .taken in
+    let p = held (a .cends .now) (a .csels .now) (a .aends .now) (a .asels .now) in (
+      omega arith,
+      ⊎-elim
+          (λ w.
+          let j : Inside = record { before = c .before; if1 = w .0 } in
+          rw (w .7)
+          (until (omega arith)
+          (then (s .pre .0 .room) (omega arith) (omega arith) (i .1)
+          (put-in (a .face) (a .cx) (a .cy) q (room-kept (s .pre .0 .room) (i .1 .long)) t (here j) (placed j) (w .4 .ensures)
+          (same-block p (a .ps) (a .e) (a .out .now) (chunkNumber (a .g) (a .face) (a .cx) (a .cy)) q)
+          (block-sized p (a .ps) (a .e) (a .out .now) q ∙ sym (s .pre .0 .bytes))))))
+          (λ w.
+          rw (w .1)
+          (until (omega arith)
+          (then (s .pre .0 .room) (omega arith) (omega arith) (i .1)
+          (skipped (a .face) (a .cx) (a .cy) q (s .pre .1 .0) t (off-grid (a .g) (a .face) (a .cx) (a .cy) q (a .right) (a .bottom) (s .pre .1 .0) t (s .pre .1 .1) (w .0 .left))))))
+          (c .if1 .came),
+    )
 
 same-length : tie.Need-same-length Inv-loop μ-loop
 same-length c = c .before .loop .inv .1 .long
@@ -48,7 +143,18 @@ blocks-spec =
     (tie.spec
     Inv-loop
     μ-loop
+    mul-base
+    mul-base-2
+    mul-base-3
+    add-base
+    mul-base-4
+    mul-base-5
+    add-base-2
     loop-holds
+    mul-at
+    add-at
+    mul-at-2
+    add-at-2
     block-requires
     add-q
     loop-less

@@ -1,20 +1,21 @@
 -- A chunk that is read is one chunk more of the run, and one that is refused ends it.
+use mathlib.Core.Path.{refl}
 use borrow.Author.Needs.{needs}
 use Rattle.crn_unpacker.proofs.Steps.{chunk-goes, chunk-stops}
 use Rattle.crn_unpacker.proofs.rows.chunk.Statement.{statement}
 use Rattle.crn_unpacker.proofs.rows.chunk.Tie as tie
 
-mul-read-chunk : tie.Need-mul-read-chunk
-mul-read-chunk c = search needs
+mul-right : tie.Need-mul-right
+mul-right c = search needs
 
-add-read-chunk : tie.Need-add-read-chunk
-add-read-chunk c = search needs
+add-right : tie.Need-add-right
+add-right c = search needs
 
-mul-read-chunk-2 : tie.Need-mul-read-chunk-2
-mul-read-chunk-2 c = search needs
+mul-bottom : tie.Need-mul-bottom
+mul-bottom c = search needs
 
-add-read-chunk-2 : tie.Need-add-read-chunk-2
-add-read-chunk-2 c = search needs
+add-bottom : tie.Need-add-bottom
+add-bottom c = search needs
 
 read-chunk-requires : tie.Need-read-chunk-requires
 read-chunk-requires c κs = search needs
@@ -28,7 +29,7 @@ enum-known-a-2 c = search needs
 blocks-requires : tie.Need-blocks-requires
 blocks-requires c κs =
     let s = c .before .before .before .before .before .before .before .before .before .before .before .before .before .before .before in
-    (record { bytes = s .pre .0 .bytes; room = s .pre .0 .room; known = c .before .before .before .before .before .read-chunk .ensures .on _ _ _ (c .before .before .before .a2 .given .1) .1 }, s .pre .1 .1)
+    (record { bytes = s .pre .0 .bytes; room = s .pre .0 .room; known = c .before .before .before .before .before .read-chunk .ensures .on _ _ _ (c .before .before .before .a2 .given .1) .1 }, (s .pre .1 .1, (refl, refl)))
 
 returns : tie.Need-returns
 returns c =
@@ -47,10 +48,10 @@ pub chunk-spec : {M : Type 1} → statement M
 chunk-spec =
     tie.close
     (tie.spec
-    mul-read-chunk
-    add-read-chunk
-    mul-read-chunk-2
-    add-read-chunk-2
+    mul-right
+    add-right
+    mul-bottom
+    add-bottom
     read-chunk-requires
     enum-known-a
     enum-known-a-2
