@@ -13,7 +13,6 @@ use Rattle.crn_format.specs.Choice.{pick}
 use Rattle.crn_format.specs.Bits.{bitCount, spelled}
 use Rattle.crn_format.specs.Codes.{Drawn, symbolAt, failed}
 use Rattle.crn_symbol_codec.specs.Decoders.{walk, find, front, firstBy, offBy}
-use Rattle.crn_symbol_codec.proofs.Bytes.{field-front, field-step}
 use Rattle.crn_symbol_codec.proofs.Walking.{walk-ended, walk-more}
 
 pub first-step : (cs : List ℕ) (k : ℕ) → firstBy cs (k + 1) ≡ 2 * (firstBy cs k + getD cs (k + 1) 0)
@@ -31,6 +30,21 @@ ifThere s p y l = pick (leb (p + l) (bitCount s)) (symbolAt y (p + l)) (failed 8
 -- what a walk over m lengths answers once the codes of up to j bits are passed
 abbrev pub restFrom : List ℕ → List ℕ → List ℕ → ℕ → ℕ → ℕ → Drawn
 restFrom cs ss s p m j = pick (leb (p + j) (bitCount s)) (walk cs ss s p (m - j) j (firstBy cs j) (offBy cs j)) (failed 8)
+
+-- ---- finding a code by the bits alone
+
+-- no code of k + 1 bits
+pub missed : (cs ss : List ℕ) (g : ℕ → ℕ) (n k : ℕ) → find cs ss g (suc n) k (firstBy cs k) (offBy cs k) ≡ 0
+    → (firstBy cs k + getD cs (k + 1) 0 ≤ g (k + 1)) × (find cs ss g n (k + 1) (firstBy cs (k + 1)) (offBy cs (k + 1)) ≡ 0)
+unfolding find
+missed cs ss g n k e = go (decLt (g (k + 1)) (firstBy cs k + getD cs (k + 1) 0))
+  where
+    go : Dec (g (k + 1) < firstBy cs k + getD cs (k + 1) 0)
+        → (firstBy cs k + getD cs (k + 1) 0 ≤ g (k + 1)) × (find cs ss g n (k + 1) (firstBy cs (k + 1)) (offBy cs (k + 1)) ≡ 0)
+    go (yes v) = absurd (omega (arith, simp (lt-ltb _ _ v) at e))
+    go (no v) =
+        let v′ : firstBy cs k + getD cs (k + 1) 0 ≤ g (k + 1) = omega arith in
+        (v′, rw (first-step cs k, off-step cs k) (simp (le-ltb _ _ v′) at e))
 
 -- g has the first bits of s at p, up to w of them
 module _ (cs ss s : List ℕ) (p w : ℕ) (g : ℕ → ℕ) (same : (j : ℕ) → j ≤ w → g j ≡ spelled s p j) where
@@ -83,18 +97,6 @@ module _ (cs ss s : List ℕ) (p w : ℕ) (g : ℕ → ℕ) (same : (j : ℕ) �
 
   -- ---- an entry that is 0: the codes of up to k + n bits are passed
 
-  missed : (n k : ℕ) → find cs ss g (suc n) k (firstBy cs k) (offBy cs k) ≡ 0
-      → (firstBy cs k + getD cs (k + 1) 0 ≤ g (k + 1)) × (find cs ss g n (k + 1) (firstBy cs (k + 1)) (offBy cs (k + 1)) ≡ 0)
-  unfolding find
-  missed n k e = go (decLt (g (k + 1)) (firstBy cs k + getD cs (k + 1) 0))
-    where
-      go : Dec (g (k + 1) < firstBy cs k + getD cs (k + 1) 0)
-          → (firstBy cs k + getD cs (k + 1) 0 ≤ g (k + 1)) × (find cs ss g n (k + 1) (firstBy cs (k + 1)) (offBy cs (k + 1)) ≡ 0)
-      go (yes v) = absurd (omega (arith, simp (lt-ltb _ _ v) at e))
-      go (no v) =
-          let v′ : firstBy cs k + getD cs (k + 1) 0 ≤ g (k + 1) = omega arith in
-          (v′, rw (first-step cs k, off-step cs k) (simp (le-ltb _ _ v′) at e))
-
   module _ (m : ℕ) (wm : w ≤ m) where
     by-miss : (n k : ℕ) → k + n ≤ w → p + k ≤ bitCount s → find cs ss g n k (firstBy cs k) (offBy cs k) ≡ 0
         → walk cs ss s p (m - k) k (firstBy cs k) (offBy cs k) ≡ restFrom cs ss s p m (k + n)
@@ -102,7 +104,7 @@ module _ (cs ss s : List ℕ) (p w : ℕ) (g : ℕ → ℕ) (same : (j : ℕ) �
     by-miss (suc n) k a h e = go (by-miss n (k + 1) (omega arith)) (decLe (p + (k + 1)) (bitCount s))
       where
         here : (firstBy cs k + getD cs (k + 1) 0 ≤ g (k + 1)) × (find cs ss g n (k + 1) (firstBy cs (k + 1)) (offBy cs (k + 1)) ≡ 0)
-        here = missed n k e
+        here = missed cs ss g n k e
 
         kn : k + suc n ≡ k + 1 + n
         kn = omega arith
@@ -117,48 +119,29 @@ module _ (cs ss s : List ℕ) (p w : ℕ) (g : ℕ → ℕ) (same : (j : ℕ) �
             let q : bitCount s < p + (k + suc n) = omega arith in
             rw (lt-leb _ _ q) (walk-ended cs ss s p m k (firstBy cs k) (offBy cs k) (omega arith) (omega arith))
 
-  by-low : (n k : ℕ) → k + n ≤ w → firstBy cs k ≤ spelled s p (k + 1) → find cs ss g n k (firstBy cs k) (offBy cs k) ≡ 0
-      → firstBy cs (k + n) ≤ spelled s p (k + n + 1)
-  by-low zero k a h e = rw add-zero h
-  by-low (suc n) k a h e =
-      let kn : k + suc n ≡ k + 1 + n = omega arith in
-      let here = missed n k e in
-      rw kn (by-low n (k + 1) (omega arith) (omega (arith, first-step cs k, field-step s p (k + 1), here .0, same (k + 1) (omega arith))) (here .1))
-
--- the first bits of the first w
-front-is : (s : List ℕ) (p w j : ℕ) → j ≤ w → front w (spelled s p w) j ≡ spelled s p j
-front-is s p w j h =
-    let e : j + (w - j) ≡ w = omega arith in
-    sym (rw e at (field-front s p j (w - j)))
-
-module _ (cs ss s : List ℕ) (p m w : ℕ) (wm : w ≤ m) where
+module _ (cs ss s : List ℕ) (p m w : ℕ) (wm : w ≤ m) (g : ℕ → ℕ) (same : (j : ℕ) → j ≤ w → g j ≡ spelled s p j) where
   -- an entry e that is not 0 says what the walk finds
-  pub hit : (e : ℕ) → w < 32 → e ≡ find cs ss (front w (spelled s p w)) w 0 0 0 → (e ≡ 0 → ⊥)
+  pub hit : (e : ℕ) → w < 32 → e ≡ find cs ss g w 0 0 0 → (e ≡ 0 → ⊥)
       → (walk cs ss s p m 0 0 0 ≡ ifThere s p (e / 32) (e % 32)) × (0 < e % 32) × (e % 32 ≤ w)
   hit e sm is some =
-      let g = front w (spelled s p w) in
       let some-length = pos (decLt 0 (e % 32)) in
-      let r = by-entry cs ss s p w g (front-is s p w) w m 0 0 0 (e / 32) (e % 32) (omega arith) wm some-length (omega arith) sm (sym is ∙ omega arith) in
+      let r = by-entry cs ss s p w g same w m 0 0 0 (e / 32) (e % 32) (omega arith) wm some-length (omega arith) sm (sym is ∙ omega arith) in
       (r .0, r .1, omega (arith, r .2))
     where
       pos : Dec (0 < e % 32) → 0 < e % 32
       pos (yes h) = h
-      pos (no h) = absurd (some (is ∙ find-shape cs ss s p w (front w (spelled s p w)) (front-is s p w) w 0 0 0 (omega arith) (rw is at (low h))))
+      pos (no h) = absurd (some (is ∙ find-shape cs ss s p w g same w 0 0 0 (omega arith) (rw is at (low h))))
         where
           low : (0 < e % 32 → ⊥) → e % 32 ≡ 0
           low q = omega arith
 
   -- where it is 0 the walk goes on from the length w
-  pub miss : p ≤ bitCount s → find cs ss (front w (spelled s p w)) w 0 0 0 ≡ 0
-      → (walk cs ss s p m 0 0 0 ≡ restFrom cs ss s p m w) × (firstBy cs w ≤ spelled s p (w + 1))
+  pub miss : p ≤ bitCount s → find cs ss g w 0 0 0 ≡ 0 → walk cs ss s p m 0 0 0 ≡ restFrom cs ss s p m w
   unfolding firstBy offBy
   miss q e =
-      let g = front w (spelled s p w) in
       let z : 0 + w ≡ w = omega arith in
-      let all : m - 0 ≡ m = omega arith in (
-        rw (all, z) at (by-miss cs ss s p w g (front-is s p w) m wm w 0 (omega arith) (omega arith) e),
-        rw z at (by-low cs ss s p w g (front-is s p w) w 0 (omega arith) (omega arith) e),
-      )
+      let all : m - 0 ≡ m = omega arith in
+      rw (all, z) at (by-miss cs ss s p w g same m wm w 0 (omega arith) (omega arith) e)
 
 -- without codes every entry is 0
 pub find-none : (cs ss : List ℕ) (g : ℕ → ℕ) (n k o : ℕ) → ((l : ℕ) → l < 17 → getD cs l 0 ≡ 0) → k + n < 17 → find cs ss g n k 0 o ≡ 0

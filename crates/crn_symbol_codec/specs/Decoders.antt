@@ -65,6 +65,14 @@ unfoldable pub offBy : List ℕ → ℕ → ℕ
 offBy cs zero = 0
 offBy cs (suc k) = offBy cs k + getD cs (k + 1) 0
 
+-- what the 64 bits `bits` begin with, by the table: 32 times a symbol plus its code's length, or 0
+abbrev pub foundIn : List ℕ → List ℕ → ℕ → ℕ
+foundIn lookup sorted bits = find (countsIn lookup) sorted (front 64 bits) (longestIn lookup) 0 0 0
+
+-- the same by the codes that are short enough to be looked up
+abbrev pub shortIn : List ℕ → List ℕ → ℕ → ℕ
+shortIn lookup sorted bits = find (countsIn lookup) sorted (front 64 bits) (widthIn lookup) 0 0 0
+
 -- ---- what a lookup holds
 
 pub record Entries (cs ss : List ℕ) (w : ℕ) (lut : List ℕ) : Type 0 where

@@ -2,11 +2,10 @@
 use Prim.Native.Nat.{ℕ}
 use mathlib.Core.Path.{_≡_}
 use mathlib.Core.List.{List}
-use Rattle.crn_format.specs.Bits.{spelled}
 use Rattle.crn_format.specs.Codes.{Drawn, symbolAt, failed}
 use Rattle.crn_symbol_codec.specs.Cursors.{place}
 use Rattle.crn_symbol_codec.specs.Taking.{On, Near}
-use Rattle.crn_symbol_codec.specs.Decoders.{widthIn, longestIn, countsIn, walk, find, front}
+use Rattle.crn_symbol_codec.specs.Decoders.{longestIn, countsIn, walk}
 use Rattle.crn_symbol_codec.specs.declared.Cursor.{Cursor}
 use Rattle.crn_symbol_codec.specs.declared.Taken.{Taken}
 use Rattle.crn_symbol_codec.specs.declared.Taken.the-variants.{Value, Failed}
@@ -19,10 +18,6 @@ drew (Failed n) = failed n
 -- what a draw by the table finds at p
 abbrev pub walked : List ℕ → List ℕ → List ℕ → ℕ → Drawn
 walked lookup sorted seg p = walk (countsIn lookup) sorted seg p (longestIn lookup) 0 0 0
-
--- no code that is short enough to be looked up begins the bits at p
-abbrev pub Missed : List ℕ → List ℕ → List ℕ → ℕ → Type 0
-Missed lookup sorted seg p = find (countsIn lookup) sorted (front (widthIn lookup) (spelled seg p (widthIn lookup))) (widthIn lookup) 0 0 0 ≡ 0
 
 -- r is what the table finds at the cursor
 pub record Draws (lookup sorted seg : List ℕ) (c : Cursor) (r : Taken) : Type 0 where

@@ -8,8 +8,7 @@ ghost use Rattle.crn_format.specs.Bits.{spelled};
 ghost use Rattle.crn_format.specs.Reading.{aSymbol, aNumber};
 ghost use Rattle.crn_symbol_codec.specs.Cursors.{place as «placeOf», past, Holds, Enough, Filled};
 ghost use Rattle.crn_symbol_codec.specs.Taking.{refusalOf, Takes, Near};
-ghost use Rattle.crn_symbol_codec.specs.Decoders.{Usable, Decodes};
-ghost use Rattle.crn_symbol_codec.specs.Drawing.{Missed, Draws};
+ghost use Rattle.crn_symbol_codec.specs.Decoders.{Usable, Decodes, shortIn, foundIn};
 
 // The next `have` bits, at the top of `bits`, and the byte after them. Below them stand bits of the segment or 0.
 pub struct Cursor {
@@ -175,7 +174,7 @@ pub fn number(seg: &[u8], c: Cursor, n: u64) -> Taken
 
 // A sorted symbol, 0 past the end.
 fn symbol(sorted: &[u16], i: usize) -> u32
-    ensures { λ r. ⌜ r ≡ getD (now (sorted .entry)) i 0 ⌝ }
+    ensures { λ r. ⌜ (r ≡ getD (now (sorted .entry)) i 0) × (r < 65536) ⌝ }
 {
     if sorted.len() <= i {
         return 0;
@@ -183,50 +182,56 @@ fn symbol(sorted: &[u16], i: usize) -> u32
     sorted[i] as u32
 }
 
-// A symbol whose code is too long to be looked up, length by length; 7 at once where the table has no code.
-fn draw_long(lookup: &[u32], sorted: &[u16], seg: &[u8], c: Cursor) -> Taken
-    requires { ⌜ Holds (now seg) c ⌝ ∗ ⌜ Enough (now seg) c 16 ⌝ ∗ ⌜ Usable (now lookup) (now sorted) ⌝ ∗ ⌜ Missed (now lookup) (now sorted) (now seg) («placeOf» c) ⌝ }
-    ensures { λ r. ⌜ Draws (now (lookup .entry)) (now (sorted .entry)) (now (seg .entry)) c r ⌝ }
+// The code that the bits begin with, by the lengths that are not looked up.
+fn long_entry(lookup: &[u32], sorted: &[u16], bits: u64) -> u32
+    requires { ⌜ Usable (now lookup) (now sorted) ⌝ ∗ ⌜ shortIn (now lookup) (now sorted) bits ≡ 0 ⌝ }
+    ensures { λ r. ⌜ r ≡ foundIn (now (lookup .entry)) (now (sorted .entry)) bits ⌝ }
 {
     let longest = lookup[1] as u64;
-    if longest == 0 {
-        return Taken::Failed(7);
-    }
+    let window = (bits >> 48) as u32;
     let mut k = lookup[0] as u64;
-    if c.have < k {
-        return Taken::Failed(8);
-    }
-    let window = (c.bits >> 48) as u32;
     let mut first = lookup[2];
     let mut offset = lookup[3];
     while k < longest {
-        if c.have <= k {
-            return Taken::Failed(8);
-        }
         k += 1;
         let v = window >> (16 - k);
         let n = lookup[8 + k as usize];
         if v < first + n {
-            let y = symbol(sorted, (offset + (v - first)) as usize);
-            return Taken::Value(y, skip(c, k));
+            return 32 * symbol(sorted, (offset + (v - first)) as usize) + k as u32;
         }
         first = 2 * (first + n);
         offset += n;
     }
-    Taken::Failed(7)
+    0
 }
 
-// A symbol, from a cursor that has 16 bits or all that are left. Its first bits are looked up: the entry has the symbol and the
-// length of its code, or is 0.
+// The code that the bits begin with: 32 times its symbol plus its length, or 0 where they begin with none. Its first bits are looked up;
+// a plain number comes back, so that a loop which draws keeps it in a register.
+pub fn entry(lookup: &[u32], sorted: &[u16], bits: u64) -> u32
+    requires { ⌜ Usable (now lookup) (now sorted) ⌝ }
+    ensures { λ r. ⌜ r ≡ foundIn (now (lookup .entry)) (now (sorted .entry)) bits ⌝ }
+{
+    let width = lookup[0] as u64;
+    let i = (bits >> (64 - width)) as usize;
+    let e = lookup[32 + i];
+    if e == 0 {
+        return long_entry(lookup, sorted, bits);
+    }
+    e
+}
+
+// A symbol, from a cursor that has 16 bits or all that are left. Where no code begins them, or one that is longer than what is left,
+// the segment may have ended within it.
 pub fn draw_ready(lookup: &[u32], sorted: &[u16], seg: &[u8], c: Cursor) -> Taken
     requires { ⌜ Holds (now seg) c ⌝ ∗ ⌜ Enough (now seg) c 16 ⌝ ∗ ⌜ Usable (now lookup) (now sorted) ⌝ }
     ensures { λ r. ⌜ ((ls : List ℕ) → Decodes ls (now (lookup .entry)) (now (sorted .entry)) → Takes (now (seg .entry)) (aSymbol ls) c r) × Near c r ⌝ }
 {
-    let width = lookup[0] as u64;
-    let i = (c.bits >> (64 - width)) as usize;
-    let e = lookup[32 + i];
+    let e = entry(lookup, sorted, c.bits);
     if e == 0 {
-        return draw_long(lookup, sorted, seg, c);
+        if c.have < lookup[1] as u64 {
+            return Taken::Failed(8);
+        }
+        return Taken::Failed(7);
     }
     let l = (e % 32) as u64;
     if c.have < l {

@@ -1,83 +1,63 @@
--- A symbol by the entry of the next bits, or the long way where that is 0.
-use mathlib.Core.Path.{refl}
+-- A symbol by the code that the bits begin with.
+use mathlib.Core.Path.{sym, _∙_}
 use native.Mathlib.Omega.{arith}
 use borrow.Author.Needs.{needs}
-use Rattle.crn_symbol_codec.proofs.Drawing.{in-entries, entry-missed, entry-length, entry-ended, entry-found}
+use Rattle.crn_symbol_codec.proofs.Drawing.{found-length, found-ended, found-drawn, none-short, none-begins}
 use Rattle.crn_symbol_codec.proofs.Taking.{takes-symbol}
 use Rattle.crn_symbol_codec.proofs.draw_ready.Statement.{statement}
 use Rattle.crn_symbol_codec.proofs.draw_ready.Tie as tie
 
-shared-slice-read-width : tie.Need-shared-slice-read-width
-shared-slice-read-width c = search needs
+entry-requires : tie.Need-entry-requires
+entry-requires c κs = search needs
 
-cast-width : tie.Need-cast-width
-cast-width c = search needs
+shared-slice-read-if2 : tie.Need-shared-slice-read-if2
+shared-slice-read-if2 c = search needs
 
-sub-i : tie.Need-sub-i
-sub-i c = search needs
-
-shr-i : tie.Need-shr-i
-shr-i c = search needs
-
-add-e : tie.Need-add-e
-add-e c =
-    let st = c .before .before .before .before .before in
-    omega (arith, in-entries (st .pre .0) (st .pre .1 .0) (st .pre .1 .1))
-
-mul-e : tie.Need-mul-e
-mul-e c =
-    let st = c .before .before .before .before .before in
-    omega (arith, in-entries (st .pre .0) (st .pre .1 .0) (st .pre .1 .1))
-
-shared-slice-read-e : tie.Need-shared-slice-read-e
-shared-slice-read-e c =
-    let st = c .before .before .before .before .before .before in
-    omega (arith, in-entries (st .pre .0) (st .pre .1 .0) (st .pre .1 .1))
-
-draw-long-requires : tie.Need-draw-long-requires
-draw-long-requires c κs =
-    let st = c .before .before .before .before .before .before .before in
-    (st .pre .0, (st .pre .1 .0, (st .pre .1 .1, entry-missed (st .pre .0) (st .pre .1 .0) (st .pre .1 .1) (c .if1 .taken))))
+cast-if2 : tie.Need-cast-if2
+cast-if2 c = search needs
 
 returns : tie.Need-returns
 returns c =
-    let r = c .draw-long .ensures in
+    let st = c .before .before .before .before .before .before .before .before in
+    let r = none-short (st .pre .0) (st .pre .1 .0) (st .pre .1 .1) (sym (c .before .before .before .before .entry .ensures) ∙ c .before .before .before .if1 .taken) (omega arith) in
+    ((λ ls d. takes-symbol r d), r .near)
+
+returns-2 : tie.Need-returns-2
+returns-2 c =
+    let st = c .before .before .before .before .before .before .before .before in
+    let r = none-begins (st .pre .0) (st .pre .1 .0) (st .pre .1 .1) (sym (c .before .before .before .before .entry .ensures) ∙ c .before .before .before .if1 .taken) (omega arith) in
     ((λ ls d. takes-symbol r d), r .near)
 
 cast-l : tie.Need-cast-l
 cast-l c = search needs
 
-returns-2 : tie.Need-returns-2
-returns-2 c =
-    let st = c .before .before .before .before .before .before .before .before .before in
-    let r = entry-ended (st .pre .0) (st .pre .1 .0) (st .pre .1 .1) _ refl (c .before .before .if1 .left) (omega arith) in
+returns-3 : tie.Need-returns-3
+returns-3 c =
+    let st = c .before .before .before .before .before .before .before in
+    let r = found-ended (st .pre .0) (st .pre .1 .0) (st .pre .1 .1) _ (c .before .before .before .entry .ensures) (c .before .before .if1 .left) (omega arith) in
     ((λ ls d. takes-symbol r d), r .near)
 
 skip-requires : tie.Need-skip-requires
 skip-requires c κs =
-    let st = c .before .before .before .before .before .before .before .before .before in
-    (omega arith, omega (arith, entry-length (st .pre .0) (st .pre .1 .0) (st .pre .1 .1) _ refl (c .before .before .if1 .left), st .pre .1 .1 .few))
+    let st = c .before .before .before .before .before .before .before in
+    (omega arith, found-length (st .pre .0) (st .pre .1 .0) (st .pre .1 .1) _ (c .before .before .before .entry .ensures) (c .before .before .if1 .left))
 
-returns-3 : tie.Need-returns-3
-returns-3 c =
-    let st = c .before .before .before .before .before .before .before .before .before .before in
-    let r = entry-found (st .pre .0) (st .pre .1 .0) (st .pre .1 .1) _ refl (c .before .before .before .if1 .left) (omega arith) in
+returns-4 : tie.Need-returns-4
+returns-4 c =
+    let st = c .before .before .before .before .before .before .before .before in
+    let r = found-drawn (st .pre .0) (st .pre .1 .0) (st .pre .1 .1) _ (c .before .before .before .before .entry .ensures) (c .before .before .before .if1 .left) (omega arith) in
     rw (c .skip .ensures) ((λ ls d. takes-symbol r d), r .near)
 
 pub draw-ready-spec : {M : Type 1} → statement M
 draw-ready-spec =
     tie.close
     (tie.spec
-    shared-slice-read-width
-    cast-width
-    sub-i
-    shr-i
-    add-e
-    mul-e
-    shared-slice-read-e
-    draw-long-requires
+    entry-requires
+    shared-slice-read-if2
+    cast-if2
     returns
-    cast-l
     returns-2
+    cast-l
+    returns-3
     skip-requires
-    returns-3)
+    returns-4)

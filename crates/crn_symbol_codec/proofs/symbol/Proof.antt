@@ -9,7 +9,7 @@ use Rattle.crn_symbol_codec.proofs.symbol.Tie as tie
 returns : tie.Need-returns
 returns c =
     let a = c .before .args in
-    sym (List·getD-eq-default (a .sorted .now) 0 (c .if1 .taken))
+    (sym (List·getD-eq-default (a .sorted .now) 0 (c .if1 .taken)), omega arith)
 
 mul-result : tie.Need-mul-result
 mul-result c = search needs
@@ -21,7 +21,7 @@ cast-result : tie.Need-cast-result
 cast-result c = omega (arith, c .shared-slice-known .given (c .before .before .args .i))
 
 returns-2 : tie.Need-returns-2
-returns-2 c = search needs
+returns-2 c = (search needs, omega (arith, c .shared-slice-known .given (c .before .before .args .i)))
 
 pub symbol-spec : {M : Type 1} → statement M
 symbol-spec =
