@@ -1,0 +1,213 @@
+-- Indices by the quick way, one after the other: those of the tiles and those of the positions.
+use Prim.Native.Nat.{ℕ, _+_, _-_, _≤_, _<_}
+use mathlib.Core.Bool.{Bool, true, false}
+use mathlib.Core.List.{List}
+use mathlib.Core.Path.{_≡_, refl, sym, ap, _∙_}
+use native.Mathlib.Omega.{arith}
+use lib.ListN.{length, getD, set, drop}
+use Rattle.crn_format.specs.Reading.{spot, run}
+use Rattle.crn_format.specs.Level.{endpointIndices, positionSelectors}
+use Rattle.crn_symbol_codec.specs.Cursors.{place, Holds}
+use Rattle.crn_symbol_codec.specs.declared.Cursor.{Cursor}
+use Rattle.crn_chunks.specs.Meaning.{source, spending, row, planeOf, planes, most}
+use Rattle.crn_chunks.specs.Parts.{Draws, indexOf, reach, Picks, rowsTo, tilesAt}
+use Rattle.crn_chunks.specs.Reads.{insideOf}
+use Rattle.crn_chunks.specs.declared.Side.{Side}
+use Rattle.crn_chunks.specs.declared.Planes.{Planes}
+use Rattle.crn_chunks.specs.declared.Drew.the-variants.{Got}
+use Rattle.crn_chunks.specs.declared.Paired.the-variants.{Pair}
+use Rattle.crn_chunks.proofs.Tiling.{Tiling, tiling-none, tiling-more, tiling-done, tiles-one, tiles-two}
+use Rattle.crn_chunks.proofs.Picking.{Picking, picking-none, picking-more, picking-done, picks-one, picks-two}
+use Rattle.crn_quick.specs.declared.Step.{Step}
+use Rattle.crn_quick.specs.declared.Steps.{Steps}
+use Rattle.crn_chunks.specs.declared.Carried.{Carried}
+use Rattle.crn_chunks.specs.declared.Stream.{Stream}
+use Rattle.crn_quick.specs.Quick.{streamAt, each, Both, Stepped, Tiles, QuickTiled, AllTiles, QuickAllTiled, QuickPicks, QuickAllPicked}
+
+pub never : {b : Bool} {A : Type 0} → b ≡ true → b ≡ false → A
+never e f = let z : _≡_ {A = ℕ} 0 1 = cc in absurd (omega arith)
+
+pub each-one : {two : Bool} (n : ℕ) → two ≡ false → each two n ≡ n
+each-one n h = rw h
+
+pub each-two : {two : Bool} (n : ℕ) → two ≡ true → each two n ≡ n + n
+each-two n h = rw h
+
+-- ---- k of a plane's n tiles done, from a cursor
+
+pub record Tilings (lookup sorted seg : List ℕ) (ps : Planes) (p : Side) (base n i : ℕ) (c : Cursor) (b l m : ℕ) (before out : List ℕ) (at : Cursor) (last k : ℕ) : Type 0 where
+  pub blamed : ℕ
+  pub tiling : Tiling lookup sorted seg ps p base n i (streamAt c b l) before out (streamAt at blamed m) last k
+
+abbrev pub QuickTiling : List ℕ → List ℕ → List ℕ → Planes → Side → ℕ → ℕ → ℕ → Cursor → List ℕ → List ℕ → Cursor → ℕ → ℕ → Type 0
+QuickTiling lookup sorted seg ps p base n i c before out at last k =
+    (b l m : ℕ) → l ≡ m + k → Tilings lookup sorted seg ps p base n i c b l m before out at last k
+
+module _ {lookup sorted seg : List ℕ} {ps : Planes} {p : Side} {base n i : ℕ} {c : Cursor} where
+  pub quick-none : (before : List ℕ) → Holds seg c → i < most → QuickTiling lookup sorted seg ps p base n i c before before c i 0
+  quick-none before h a b l m e =
+      let f : l ≡ m = omega arith in
+      record { blamed = b; tiling = rw f (tiling-none before h a) }
+
+  module _ {before out : List ℕ} {at : Cursor} {last k : ℕ} (x : QuickTiling lookup sorted seg ps p base n i c before out at last k) where
+    -- one instance has what does not depend on the budget
+    pub quick-now : Tiling lookup sorted seg ps p base n i (streamAt c 0 k) before out (streamAt at (x 0 k 0 (omega arith) .blamed) 0) last k
+    quick-now = x 0 k 0 (omega arith) .tiling
+
+    -- another cursor at the same place
+    moved : {d : Cursor} → Holds seg d → place d ≡ place at → QuickTiling lookup sorted seg ps p base n i c before out d last k
+    moved {d} h e b l m f =
+        let y = x b l m f in
+        let t = y .tiling in
+        record {
+          blamed = y .blamed;
+          tiling = record {
+            some = t .some;
+            holds = h;
+            below = t .below;
+            final = t .final;
+            long = t .long;
+            kept = t .kept;
+            left = λ cs q. t .left cs q
+                ∙ ap (λ (z : ℕ). run (source seg) (endpointIndices (planeOf cs p) (n - k) last (tilesAt base k out)) (record { place = spot z (y .blamed); left = m })) (sym e);
+          };
+        }
+
+    pub quick-more : {d : Cursor} {a : Step} → Holds seg d → place d ≡ place at → k < n → Stepped lookup sorted seg ps (p .ends) (p .endpoints) true last d a → a .lost ≡ false
+        → base + n ≤ length before → QuickTiling lookup sorted seg ps p base n i c before (set out (base + k) (a .index)) (a .cursor) (a .index) (k + 1)
+    quick-more {d} h e more s kept room b l m f =
+        let y = moved h e b l (m + 1) (omega arith) in
+        record { blamed = place d; tiling = tiling-more (y .tiling) more (s .drawn kept (y .blamed) (m + 1) m refl) refl room }
+
+    pub quick-done : n ≤ k → k ≤ n → (b l m : ℕ) → l ≡ m + n → {a : Step} → a .index ≡ last → a .cursor ≡ at → Tiles lookup sorted seg ps p base n i (streamAt c b l) m before out a
+    quick-done u w b l m f {a} g h =
+        let y = x b l m (omega arith) in
+        record { blamed = y .blamed; tiled = rw (g, h) (tiling-done (y .tiling) u) }
+
+-- ---- each plane
+
+module _ {lookup sorted seg : List ℕ} (ps : Planes) {n e0 : ℕ} (e1 : ℕ) {c : Cursor} {before mid : List ℕ} {t : Step} (x : QuickTiled lookup sorted seg ps (ps .first) 0 n e0 c before mid t) (kept : t .lost ≡ false) where
+  pub tiled-one : ps .two ≡ false → e1 < most → (b l m : ℕ) → l ≡ m + each (ps .two) n
+      → AllTiles lookup sorted seg ps n e0 e1 (streamAt c b l) m mid (record { cursor = t .cursor; i0 = t .index; i1 = e1; length = 0; lost = false })
+  tiled-one h o b l m f =
+      let y = x kept b l m (f ∙ ap (λ (z : ℕ). m + z) (each-one n h)) in
+      record { blamed = y .blamed; tiled = tiles-one ps e1 (y .tiled) refl h o }
+
+  pub tiled-two : {u : Step} {after : List ℕ} → ps .two ≡ true → QuickTiled lookup sorted seg ps (ps .second) 4 n e1 (t .cursor) mid after u → n ≤ 4 → length after ≡ length mid
+      → QuickAllTiled lookup sorted seg ps n e0 e1 c after (record { cursor = u .cursor; i0 = t .index; i1 = u .index; length = 0; lost = u .lost })
+  tiled-two h y few long good b l m f =
+      let v = x kept b l (m + n) (f ∙ ap (λ (z : ℕ). m + z) (each-two n h) ∙ omega arith) in
+      let w = y good (v .blamed) (m + n) m refl in
+      record { blamed = w .blamed; tiled = tiles-two ps e1 (v .tiled) refl h (w .tiled) refl few long }
+
+-- ---- a position
+
+module _ {lookup sorted seg : List ℕ} (ps : Planes) (inside : Bool) (s0 s1 : ℕ) {c : Cursor} {t : Step}
+    (x : Stepped lookup sorted seg ps (ps .first .sels) (ps .first .selectors) inside s0 c t) (kept : t .lost ≡ false) where
+  pub picked-one : ps .two ≡ false → QuickPicks lookup sorted seg ps inside s0 s1 c (record { cursor = t .cursor; i0 = t .index; i1 = 0; length = t .length; lost = false })
+  picked-one h =
+      record {
+        picked = λ good b l m f.
+            let q : place (t .cursor) - t .length ≡ place c = omega (arith, x .passed kept) in
+            rw q (picks-one ps inside s0 s1 (x .drawn kept b l m (f ∙ ap (λ (z : ℕ). m + z) (each-one 1 h))) refl h);
+        passed = λ good. omega (arith, x .passed kept);
+      }
+
+  pub picked-two : {u : Step} → ps .two ≡ true → Stepped lookup sorted seg ps (ps .second .sels) (ps .second .selectors) inside s1 (t .cursor) u
+      → QuickPicks lookup sorted seg ps inside s0 s1 c (record { cursor = u .cursor; i0 = t .index; i1 = u .index; length = u .length; lost = u .lost })
+  picked-two {u} h y =
+      record {
+        picked = λ good b l m f.
+            let q : place (u .cursor) - u .length ≡ place (t .cursor) = omega (arith, y .passed good) in
+            rw q (picks-two ps inside s0 s1 (x .drawn kept b l (m + 1) (f ∙ ap (λ (z : ℕ). m + z) (each-two 1 h) ∙ omega arith)) refl h (y .drawn good (place c) (m + 1) m refl) refl);
+        passed = λ good. omega (arith, y .passed good);
+      }
+
+-- ---- k of the four positions done, from a cursor
+
+pub record Pickings (lookup sorted seg : List ℕ) (ps : Planes) (right bottom : Bool) (s0 s1 : ℕ) (c : Cursor) (b l m : ℕ) (before out : List ℕ) (at : Cursor) (i0 i1 len k : ℕ) : Type 0 where
+  pub blamed : ℕ
+  pub picking : Picking lookup sorted seg ps right bottom s0 s1 (streamAt c b l) before out (streamAt at blamed m) i0 i1 k
+  pub behind : 0 < k → blamed ≡ place at - len
+
+pub record QuickPicking (lookup sorted seg : List ℕ) (ps : Planes) (right bottom : Bool) (s0 s1 : ℕ) (c : Cursor) (before out : List ℕ) (at : Cursor) (i0 i1 len k : ℕ) : Type 0 where
+  pub going : (b l m : ℕ) → l ≡ m + each (ps .two) k → Pickings lookup sorted seg ps right bottom s0 s1 c b l m before out at i0 i1 len k
+  pub passed : len ≤ place at
+
+-- one position more of the budget
+each-more : (two : Bool) (k m l : ℕ) → l ≡ m + each two (k + 1) → l ≡ (m + each two 1) + each two k
+each-more true k m l e = omega arith
+each-more false k m l e = omega arith
+
+module _ {lookup sorted seg : List ℕ} {ps : Planes} {right bottom : Bool} {s0 s1 : ℕ} {c : Cursor} where
+  pub picks-none : (before : List ℕ) → Holds seg c → s0 < most → s1 < most → QuickPicking lookup sorted seg ps right bottom s0 s1 c before before c s0 s1 0 0
+  picks-none before h f g =
+      record {
+        going = λ b l m e.
+            let q : l ≡ m = none (ps .two) e in
+            record { blamed = b; picking = rw q (picking-none before h f g); behind = λ z. absurd (omega arith) };
+        passed = omega arith;
+      }
+    where
+      none : (two : Bool) {l m : ℕ} → l ≡ m + each two 0 → l ≡ m
+      none true e = omega arith
+      none false e = omega arith
+
+  module _ {before out : List ℕ} {at : Cursor} {i0 i1 len k : ℕ} (x : QuickPicking lookup sorted seg ps right bottom s0 s1 c before out at i0 i1 len k) where
+    pub picks-now : Picking lookup sorted seg ps right bottom s0 s1 (streamAt c 0 (each (ps .two) k)) before out (streamAt at (x .going 0 (each (ps .two) k) 0 (omega arith) .blamed) 0) i0 i1 k
+    picks-now = x .going 0 (each (ps .two) k) 0 (omega arith) .picking
+
+    pub picks-more : {d : Cursor} {a : Steps} → Holds seg d → place d ≡ place at → k < 4 → QuickPicks lookup sorted seg ps (getD (insideOf right bottom) k true) i0 i1 d a → a .lost ≡ false
+        → length before ≡ 16
+        → QuickPicking lookup sorted seg ps right bottom s0 s1 c before (set (set out (8 + k) (a .i0)) (12 + k) (a .i1)) (a .cursor) (a .i0) (a .i1) (a .length) (k + 1)
+    picks-more {d} {a} h e more s kept room =
+        record {
+          going = λ b l m f.
+              let y = x .going b l (m + each (ps .two) 1) (each-more (ps .two) k m l f) in
+              let t = y .picking in
+              let moved : Picking lookup sorted seg ps right bottom s0 s1 (streamAt c b l) before out (streamAt d (y .blamed) (m + each (ps .two) 1)) i0 i1 k =
+              record {
+                some = t .some;
+                holds = h;
+                below = t .below;
+                final = t .final;
+                long = t .long;
+                kept = t .kept;
+                left = λ cs q. t .left cs q
+                    ∙ ap (λ (z : ℕ). run (source seg) (positionSelectors (planes cs ps) (drop k (insideOf right bottom)) (row (ps .two) i0 i1) (rowsTo (ps .two) out k)) (record { place = spot z (y .blamed); left = m + each (ps .two) 1 })) (sym e);
+              } in
+              record {
+                blamed = place (a .cursor) - a .length;
+                picking = picking-more moved more refl (s .picked kept (y .blamed) (m + each (ps .two) 1) m refl) refl room;
+                behind = λ z. refl;
+              };
+          passed = s .passed kept;
+        }
+
+    pub picks-done : 4 ≤ k → QuickAllPicked lookup sorted seg ps (insideOf right bottom) s0 s1 c before out (record { cursor = at; i0 = i0; i1 = i1; length = len; lost = false })
+    picks-done h =
+        record {
+          picked = λ good b l m f.
+              let some : k ≤ 4 = picks-now .some in
+              let q : k ≡ 4 = omega arith in
+              let y = x .going b l m (f ∙ ap (λ (z : ℕ). m + each (ps .two) z) (sym q)) in
+              rw (y .behind (omega arith)) at (picking-done (y .picking) h);
+          passed = λ good. x .passed;
+        }
+
+-- ---- tiles and positions
+
+-- what is left of the budget
+spent : (two : Bool) (n all l : ℕ) → n ≤ 4 → 16 ≤ all → l ≡ all - each two (n + 4) → all ≡ l + each two 4 + each two n
+spent true n all l a b e = omega arith
+spent false n all l a b e = omega arith
+
+pub both-read : {lookup sorted seg : List ℕ} (ps : Planes) {n : ℕ} (right bottom : Bool) (r : Carried) (s : Stream) {mid out : List ℕ} {t u : Steps}
+    → QuickAllTiled lookup sorted seg ps n (r .e0) (r .e1) (s .cursor) mid t → t .lost ≡ false
+    → QuickAllPicked lookup sorted seg ps (insideOf right bottom) (r .s0) (r .s1) (t .cursor) mid out u → u .lost ≡ false
+    → length out ≡ length mid → n ≤ 4 → 16 ≤ s .left → {b l : ℕ} → b ≡ place (u .cursor) - u .length → l ≡ s .left - each (ps .two) (n + 4)
+    → Both lookup sorted seg ps n right bottom r s out (record { e0 = t .i0; e1 = t .i1; s0 = u .i0; s1 = u .i1; stream = streamAt (u .cursor) b l; lost = false })
+both-read ps {n} right bottom r s {mid} {out} {t} {u} x f y g long few room {b} {l} p q =
+    let a = x f (s .blamed) (s .left) (l + each (ps .two) 4) (spent (ps .two) n (s .left) l few room q) in
+    let d = y .picked g (a .blamed) (l + each (ps .two) 4) l refl in
+    record { mid = mid; between = streamAt (t .cursor) (a .blamed) (l + each (ps .two) 4); long = long; tiled = a .tiled; picked = rw p d }
