@@ -1,0 +1,5 @@
+pub mod Facts
+pub mod Apart
+pub mod After
+pub mod Lending
+pub mod Pairs
