@@ -1,12 +1,12 @@
 -- What was done to a whole destination, by the definition: painted in turns, painted anew, counted. Assumes nothing.
-use mathlib.Core.Path.{_≡_, refl, sym, ap, _∙_}
+use mathlib.Core.Path.{_≡_, refl, sym, ap, ap₂, _∙_}
 use mathlib.Core.Logic.{⊎-elim}
 use mathlib.Core.List.{List}
-use Prim.Native.Nat.{ℕ, _+_, _*_, _-_, _<_}
+use Prim.Native.Nat.{ℕ, zero, suc, _+_, _*_, _-_, _≤_, _<_}
 use native.Mathlib.Omega.{arith}
 use lib.ListN.{length, getD, drop, length-drop, length-replicate}
-use lib.Seq.{length-take-le, getD-take, getD-drop, ext-getD}
-use Rattle.crn_format.specs.Grid.{placeOf, painted, blank, chunkCount, rowCutouts, faceCutouts, cutouts}
+use lib.Seq.{sets, length-take-le, getD-take, getD-drop, ext-getD}
+use Rattle.crn_format.specs.Grid.{placeOf, rowPainted, facePainted, painted, blank, chunkCount, rowCutouts, faceCutouts, cutouts}
 use Rattle.crn_format.specs.declared.Grid.{Grid}
 use Rattle.crn_blocks.specs.Sheet.{In, Room, Painted, Outside, turn, standing}
 use Rattle.crn_blocks.proofs.Places.{lies, Lies, room-kept}
@@ -70,11 +70,26 @@ picture-outside {g} {d} block sized = record { long = painted-length g block (g 
 -- ---- only the blocks of the grid count
 
 module _ {g : Grid} (block block′ : ℕ → ℕ → ℕ → List ℕ) (same : (f x y : ℕ) → In g f x y → block f x y ≡ block′ f x y) where
-  pub painted-same : (d : List ℕ) → Room g (length d) → Sized g block′ → painted g block (g .faces) d ≡ painted g block′ (g .faces) d
-  painted-same d room sized =
-      let sized₀ : Sized g block = λ f x y at. ap length (same f x y at) ∙ sized f x y at in
-      pictured d room block′ sized (painted g block (g .faces) d) (painted-length g block (g .faces) d)
-      (λ f x y i at h. drawn block sized₀ room at h d refl ∙ ap (λ (l : List ℕ). getD l i 0) (same f x y at)) (kept block sized₀ d)
+  paint-row : (f y x : ℕ) (d : List ℕ) → f < g .faces → y < g .rows → x ≤ g .columns → rowPainted g block f y x d ≡ rowPainted g block′ f y x d
+  unfolding rowPainted
+  paint-row f y zero d hf hy hx = refl
+  paint-row f y (suc x) d hf hy hx =
+      ap₂ (λ (e bs : List ℕ). sets e (placeOf g f x y) bs) (paint-row f y x d hf hy (omega arith)) (same f x y (record { face = hf; column = hx; row = hy }))
+
+  paint-face : (f y : ℕ) (d : List ℕ) → f < g .faces → y ≤ g .rows → facePainted g block f y d ≡ facePainted g block′ f y d
+  unfolding facePainted
+  paint-face f zero d hf hy = refl
+  paint-face f (suc y) d hf hy =
+      paint-row f y (g .columns) (facePainted g block f y d) hf hy (omega arith) ∙ ap (rowPainted g block′ f y (g .columns)) (paint-face f y d hf (omega arith))
+
+  paint : (f : ℕ) (d : List ℕ) → f ≤ g .faces → painted g block f d ≡ painted g block′ f d
+  unfolding painted
+  paint zero d hf = refl
+  paint (suc f) d hf =
+      paint-face f (g .rows) (painted g block f d) hf (omega arith) ∙ ap (facePainted g block′ f (g .rows)) (paint f d (omega arith))
+
+  pub painted-same : (d : List ℕ) → painted g block (g .faces) d ≡ painted g block′ (g .faces) d
+  painted-same d = paint (g .faces) d (omega arith)
 
   row-same : (f y : ℕ) → f < g .faces → y < g .rows → rowCutouts block f y (g .columns) ≡ rowCutouts block′ f y (g .columns)
   unfolding rowCutouts

@@ -48,7 +48,7 @@ all-known : T (every known 32)
 unfolding every tileMap tileCounts
 all-known = tt
 
-tile-below : (e q : ℕ) → e < 8 → q < 4 → tileAt e q < getD tileCounts e 0
+pub tile-below : (e q : ℕ) → e < 8 → q < 4 → tileAt e q < getD tileCounts e 0
 tile-below e q he hq =
     let is : (4 * e + q) / 4 ≡ e = omega arith in
     rw is at (ltb→lt (tileAt e q) (getD tileCounts ((4 * e + q) / 4) 0) (each known 32 (4 * e + q) all-known (omega arith)))

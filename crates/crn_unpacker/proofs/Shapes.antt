@@ -35,7 +35,7 @@ unfolding lastRow
 last-long is h none = h
 last-long is h (more {r = r} g rs) = last-long r g rs
 
-lasts-long : (is : List ℕ) (ts : List (List ℕ)) → length ts ≡ length is → length (lasts is ts) ≡ length is
+pub lasts-long : (is : List ℕ) (ts : List (List ℕ)) → length ts ≡ length is → length (lasts is ts) ≡ length is
 unfolding lasts
 lasts-long [] ts h = refl
 lasts-long (i ∷ is) [] h = absurd (omega arith)
