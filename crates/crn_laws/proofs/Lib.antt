@@ -1,0 +1,15 @@
+pub mod Following
+pub mod Fitting
+pub mod Taking
+pub mod Coding
+pub mod Only
+pub mod Trying
+pub mod Bounding
+pub mod Ending
+pub mod Summing
+pub mod Planes
+pub mod Carrying
+pub mod Placing
+pub mod Answering
+pub mod Theorems
+pub mod Examples
