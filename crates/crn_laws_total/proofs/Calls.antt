@@ -1,0 +1,45 @@
+-- The same of the functions: whatever `open` and `unpack_level` answer and leave by their contracts.
+use Prim.Native.Nat.{ℕ}
+use mathlib.Core.Bool.{true, false≢true}
+use mathlib.Core.Logic.{inl, inr}
+use mathlib.Core.List.{List}
+use mathlib.Core.Path.{_≡_, refl, sym, ap, subst, _∙_}
+use Rattle.crn_format.specs.Opening.{Palettes, Opening, opened, shut, opening}
+use Rattle.crn_format.specs.Unpacking.{Unpacking, unpacking}
+use Rattle.crn_format.specs.declared.Record.{Record}
+use Rattle.crn_opening.specs.Opens.{toOpened, buffersOf, Opens}
+use Rattle.crn_opening.specs.declared.opening.Opened.{Opened}
+use Rattle.crn_level.specs.Unpacks.{answerOf, Unpacks}
+use Rattle.crn_level.specs.declared.Unpacked.{Unpacked}
+use Rattle.crn_level.specs.declared.Unpacked.the-variants.{Blocks, Refused}
+use Rattle.crn_laws_total.specs.Refusals.{among, openingRefusals}
+use Rattle.crn_laws_total.specs.Ends.{Open, Shut, OpeningEnds, OpenEnds, LevelEnds, UnpackEnds}
+use Rattle.crn_laws_total.proofs.Opening.{opening-ends}
+use Rattle.crn_laws_total.proofs.Level.{level-ends}
+
+-- no refusal has the number 0
+not-zero : {n : ℕ} → among n openingRefusals ≡ true → n ≡ 0 → ⊥
+not-zero h z = false≢true (sym (ap (λ (k : ℕ). among k openingRefusals) z) ∙ h)
+
+module _ (lent : Palettes) where
+  by-opening : (o : Opening) → OpeningEnds lent o → OpenEnds lent (buffersOf o) (toOpened o)
+  by-opening (opened r after) h = record { number = inl refl; accepted = λ _. h; refused = λ z. absurd (z refl) }
+  by-opening (shut n bit after) h =
+      record { number = inr (h .number); accepted = λ z. absurd (not-zero (h .number) z); refused = λ _. h }
+
+  pub open-ends : (file : List ℕ) {after : Palettes} {a : Opened} → Opens (opening file lent) after a → OpenEnds lent after a
+  open-ends file {after} {a} o =
+      rw (o .answer, o .leaves) (by-opening (opening file lent) (opening-ends file lent))
+
+module _ (r : Record) (file : List ℕ) (p : Palettes) (n pitch distance budget : ℕ) (dst : List ℕ) where
+  by-answer : (a : Unpacked) (after : List ℕ) → LevelEnds r file p n pitch distance budget dst (answerOf a after)
+      → UnpackEnds r file p n pitch distance budget dst after a
+  unfolding answerOf
+  by-answer (Blocks symbols cutouts) after h = h
+  by-answer (Refused number symbols bit) after h = h
+
+  pub unpack-ends : {left : ℕ} {after : List ℕ} {a : Unpacked} → Unpacks (unpacking r file p n pitch distance budget dst) budget left after a
+      → UnpackEnds r file p n pitch distance budget dst after a
+  unpack-ends {left} {after} {a} u =
+      by-answer a after
+      (subst (λ (x : Unpacking). LevelEnds r file p n pitch distance budget dst x) (sym (u .answer)) (level-ends r file p n pitch distance budget dst))

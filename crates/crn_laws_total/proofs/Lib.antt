@@ -1,0 +1,11 @@
+pub mod Refusing
+pub mod OpeningReadings
+pub mod LevelReadings
+pub mod Numbers
+pub mod Answers
+pub mod Words
+pub mod Opening
+pub mod Bytes
+pub mod Sizes
+pub mod Level
+pub mod Calls
