@@ -1,19 +1,23 @@
--- The same of the functions: whatever `open` and `unpack_level` answer and leave by their contracts.
+-- The same of the functions: whatever `open` and `unpack_level` answer and leave, by their own contracts.
 use Prim.Native.Nat.{ℕ}
 use mathlib.Core.Bool.{true, false≢true}
 use mathlib.Core.Logic.{inl, inr}
 use mathlib.Core.List.{List}
 use mathlib.Core.Path.{_≡_, refl, sym, ap, subst, _∙_}
+use denote.Ref.{now}
 use Rattle.crn_format.specs.Opening.{Palettes, Opening, opened, shut, opening}
 use Rattle.crn_format.specs.Unpacking.{Unpacking, unpacking}
 use Rattle.crn_format.specs.declared.Record.{Record}
+use Rattle.crn_formats.specs.Lent.{lentOf}
+use Rattle.crn_opening.proofs.«open».Reads as open-call
 use Rattle.crn_opening.specs.Opens.{toOpened, buffersOf, Opens}
 use Rattle.crn_opening.specs.declared.opening.Opened.{Opened}
 use Rattle.crn_level.specs.Unpacks.{answerOf, Unpacks}
 use Rattle.crn_level.specs.declared.Unpacked.{Unpacked}
 use Rattle.crn_level.specs.declared.Unpacked.the-variants.{Blocks, Refused}
+use Rattle.crn_level.proofs.unpack_level.Reads as unpack-level
 use Rattle.crn_laws_total.specs.Refusals.{among, openingRefusals}
-use Rattle.crn_laws_total.specs.Ends.{Open, Shut, OpeningEnds, OpenEnds, LevelEnds, UnpackEnds}
+use Rattle.crn_laws_total.specs.Ends.{Says, OpeningEnds, OpenEnds, LevelEnds, UnpackEnds}
 use Rattle.crn_laws_total.proofs.Opening.{opening-ends}
 use Rattle.crn_laws_total.proofs.Level.{level-ends}
 
@@ -27,9 +31,14 @@ module _ (lent : Palettes) where
   by-opening (shut n bit after) h =
       record { number = inr (h .number); accepted = λ z. absurd (not-zero (h .number) z); refused = λ _. h }
 
-  pub open-ends : (file : List ℕ) {after : Palettes} {a : Opened} → Opens (opening file lent) after a → OpenEnds lent after a
-  open-ends file {after} {a} o =
+  opens-end : (file : List ℕ) {after : Palettes} {a : Opened} → Opens (opening file lent) after a → OpenEnds lent after a
+  opens-end file {after} {a} o =
       rw (o .answer, o .leaves) (by-opening (opening file lent) (opening-ends file lent))
+
+pub open-ends : Says open-call.Post
+    (λ (file, (ce, (cs, (ae, (al, _))))) r (_, (ce₁, (cs₁, (ae₁, (al₁, _))))).
+    OpenEnds (lentOf (now ce) (now cs) (now ae) (now al)) (lentOf (now ce₁) (now cs₁) (now ae₁) (now al₁)) r)
+open-ends _ (file, _) _ _ p = opens-end _ (now file) p
 
 module _ (r : Record) (file : List ℕ) (p : Palettes) (n pitch distance budget : ℕ) (dst : List ℕ) where
   by-answer : (a : Unpacked) (after : List ℕ) → LevelEnds r file p n pitch distance budget dst (answerOf a after)
@@ -38,8 +47,14 @@ module _ (r : Record) (file : List ℕ) (p : Palettes) (n pitch distance budget 
   by-answer (Blocks symbols cutouts) after h = h
   by-answer (Refused number symbols bit) after h = h
 
-  pub unpack-ends : {left : ℕ} {after : List ℕ} {a : Unpacked} → Unpacks (unpacking r file p n pitch distance budget dst) budget left after a
+  unpacks-end : {left : ℕ} {after : List ℕ} {a : Unpacked} → Unpacks (unpacking r file p n pitch distance budget dst) budget left after a
       → UnpackEnds r file p n pitch distance budget dst after a
-  unpack-ends {left} {after} {a} u =
+  unpacks-end {left} {after} {a} u =
       by-answer a after
       (subst (λ (x : Unpacking). LevelEnds r file p n pitch distance budget dst x) (sym (u .answer)) (level-ends r file p n pitch distance budget dst))
+
+pub unpack-ends : Says unpack-level.Post
+    (λ (r, (file, (ce, (cs, (ae, (al, (n, (pitch, (distance, (budget, (dst, _))))))))))) a (_, (_, (_, (_, (_, (_, (_, (_, (_, (_, (dst₁, _))))))))))).
+    UnpackEnds r (now file) (lentOf (now ce) (now cs) (now ae) (now al)) n pitch distance (now budget) (now dst) (now dst₁) a)
+unpack-ends _ (r, (file, (ce, (cs, (ae, (al, (n, (pitch, (distance, (budget, (dst, _))))))))))) _ _ p =
+    unpacks-end r (now file) (lentOf (now ce) (now cs) (now ae) (now al)) n pitch distance (now budget) (now dst) p

@@ -23,6 +23,11 @@ use Rattle.crn_opening.specs.declared.opening.Opened.{Opened}
 use Rattle.crn_laws_total.specs.Refusals.{among, beforeStreams, inStreams, openingRefusals, beforeDraws, inDraws, levelRefusals}
 use Rattle.crn_laws_total.specs.Leaves.{Zeroed, Beyond, Leaves}
 
+-- a contract says so of every call: what was given, what is answered, and the parameters at exit. The `Post` of a function is its `ensures` as
+-- the checker reads it
+abbrev pub Says : {K A R E : Type 0} → (K → A → R → E → Type 0) → (A → R → E → Type 0) → Type 0
+Says {K} {A} {R} {E} post claim = (κ : K) (a : A) (r : R) (e : E) → post κ a r e → claim a r e
+
 -- ---- opening
 
 pub record AllZeroed (lent after : Palettes) : Type 0 where

@@ -1,0 +1,65 @@
+-- Cursors, and what is taken from them: the value and the place after it are fixed, or the refusal is. How many bits a cursor has at hand is left
+-- open.
+use Prim.Native.Nat.{ℕ}
+use mathlib.Core.Path.{_≡_, refl, sym, ap, _∙_}
+use mathlib.Core.List.{List}
+use native.Mathlib.Omega.{arith}
+use denote.Ref.{now}
+use Rattle.crn_format.specs.Codes.{Drawn, symbolAt, failed}
+use Rattle.crn_format.specs.Reading.{Want, Step, got, refused, Place, spot, served}
+use Rattle.crn_symbol_codec.specs.Cursors.{place}
+use Rattle.crn_symbol_codec.specs.Taking.{took, Takes}
+use Rattle.crn_symbol_codec.specs.Decoders.{Decodes}
+use Rattle.crn_symbol_codec.specs.Drawing.{drew}
+use Rattle.crn_symbol_codec.specs.declared.Cursor.{Cursor}
+use Rattle.crn_symbol_codec.specs.declared.Taken.{Taken}
+use Rattle.crn_symbol_codec.specs.declared.Taken.the-variants.{Value, Failed}
+use Rattle.crn_symbol_codec.proofs.start.Reads as start
+use Rattle.crn_symbol_codec.proofs.refill.Reads as refill
+use Rattle.crn_symbol_codec.proofs.number.Reads as number
+use Rattle.crn_symbol_codec.proofs.draw_ready.Reads as draw-ready
+use Rattle.crn_symbol_codec.proofs.draw.Reads as draw
+use Rattle.crn_static_huffman_data_model.proofs.ready.Reads as ready
+use Rattle.crn_static_huffman_data_model.proofs.draw.Reads as model-draw
+use Rattle.crn_laws_results.specs.Settled.{Settled, SettledIf, alike}
+
+-- ---- a cursor's place
+
+pub start-settled : Settled start.Post (λ a r e. place r)
+start-settled _ _ _ _ _ _ _ p q = alike (p .1) (q .1)
+
+pub refill-settled : Settled refill.Post (λ a r e. place r)
+refill-settled _ _ _ _ _ _ _ p q = alike (p .stays) (q .stays)
+
+pub ready-settled : Settled ready.Post (λ a r e. place r)
+ready-settled _ _ _ _ _ _ _ p q = alike (p .1) (q .1)
+
+-- ---- what is taken: `drew` is the value and the place after it, or the refusal
+
+took-tells : (p : ℕ) (r s : Taken) → took p 0 r ≡ took p 0 s → drew r ≡ drew s
+took-tells p (Value v c) (Value w d) e =
+    let x : v ≡ w = cc in let y : spot (place c) 0 ≡ spot (place d) 0 = cc in λ i. symbolAt (x i) (y i .at)
+took-tells p (Value v c) (Failed n) e = let z : _≡_ {A = ℕ} 0 1 = cc in absurd (omega arith)
+took-tells p (Failed n) (Value v c) e = let z : _≡_ {A = ℕ} 0 1 = cc in absurd (omega arith)
+took-tells p (Failed n) (Failed m) e = let x : n ≡ m = cc in ap failed x
+
+pub takes-settled : {seg : List ℕ} {x : Want} {c : Cursor} {r s : Taken} → Takes seg x c r → Takes seg x c s → drew r ≡ drew s
+takes-settled {c = c} {r = r} {s = s} p q = took-tells (place c) r s (alike (p .same 0) (q .same 0))
+
+pub number-settled : Settled number.Post (λ a r e. drew r)
+number-settled _ _ _ _ _ _ _ p q = takes-settled p q
+
+-- ---- a draw, from a table that is some code's
+
+pub record OfCode (lookup sorted : List ℕ) : Type 0 where
+  pub lengths : List ℕ
+  pub decodes : Decodes lengths lookup sorted
+
+pub draw-ready-settled : SettledIf (λ (lookup, (sorted, _)) r. OfCode (now lookup) (now sorted)) draw-ready.Post (λ a r e. drew r)
+draw-ready-settled _ _ _ _ _ _ _ h _ p q = takes-settled (p .0 (h .lengths) (h .decodes)) (q .0 (h .lengths) (h .decodes))
+
+pub draw-settled : SettledIf (λ (lookup, (sorted, _)) r. OfCode (now lookup) (now sorted)) draw.Post (λ a r e. drew r)
+draw-settled _ _ _ _ _ _ _ h _ p q = takes-settled (p (h .lengths) (h .decodes)) (q (h .lengths) (h .decodes))
+
+pub model-draw-settled : SettledIf (λ (lookup, (sorted, _)) r. OfCode (now lookup) (now sorted)) model-draw.Post (λ a r e. drew r)
+model-draw-settled _ _ _ _ _ _ _ h _ p q = takes-settled (p (h .lengths) (h .decodes)) (q (h .lengths) (h .decodes))

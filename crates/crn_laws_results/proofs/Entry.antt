@@ -1,0 +1,43 @@
+-- The entry crate's two functions: the answer, the buffers, the budget and the destination are fixed.
+use Prim.Native.Nat.{ℕ, _+_}
+use mathlib.Core.Path.{_≡_, refl, sym, ap, _∙_}
+use mathlib.Core.List.{List}
+use native.Mathlib.Omega.{arith}
+use denote.Ref.{now}
+use Rattle.crn_format.specs.Opening.{Palettes}
+use Rattle.crn_format.specs.Unpacking.{Unpacking, unpacked, declined}
+use Rattle.crn_formats.specs.Lent.{lentOf}
+use Rattle.crn_opening.specs.declared.opening.Opened.{Opened}
+use Rattle.crn_opening.proofs.«open».Reads as opening
+use Rattle.crn_level.specs.Unpacks.{answerOf, symbolsOf, Unpacks}
+use Rattle.crn_level.specs.declared.Unpacked.{Unpacked}
+use Rattle.crn_level.specs.declared.Unpacked.the-variants.{Blocks, Refused}
+use Rattle.crn_level.proofs.unpack_level.Reads as unpack-level
+use Rattle.crn_laws_results.specs.Settled.{Settled, alike, alike₂}
+
+pub open-settled : Settled {X = Opened × Palettes} opening.Post (λ a r (file, (ce, (cs, (ae, (al, _))))). (r, lentOf (now ce) (now cs) (now ae) (now al)))
+open-settled _ _ _ _ _ _ _ p q = alike₂ (p .answer) (q .answer) (p .leaves) (q .leaves)
+
+-- ---- a level
+
+-- an answer and a destination tell each other apart
+answers-apart : (r s : Unpacked) (d e : List ℕ) → answerOf r d ≡ answerOf s e → (r ≡ s) × (d ≡ e)
+unfolding answerOf
+answers-apart (Blocks m c) (Blocks n k) d e h =
+    let a : m ≡ n = cc in let b : c ≡ k = cc in let z : d ≡ e = cc in ((λ i. Blocks (a i) (b i)), z)
+answers-apart (Blocks m c) (Refused n k b) d e h = let z : _≡_ {A = ℕ} 0 1 = cc in absurd (omega arith)
+answers-apart (Refused n k b) (Blocks m c) d e h = let z : _≡_ {A = ℕ} 0 1 = cc in absurd (omega arith)
+answers-apart (Refused n k b) (Refused m l c) d e h =
+    let x : n ≡ m = cc in let y : k ≡ l = cc in let w : b ≡ c = cc in let z : d ≡ e = cc in ((λ i. Refused (x i) (y i) (w i)), z)
+
+pub unpacks-settled : {u : Unpacking} {budget left₁ left₂ : ℕ} {d e : List ℕ} {r s : Unpacked} → Unpacks u budget left₁ d r → Unpacks u budget left₂ e s
+    → _≡_ {A = Unpacked × (ℕ × List ℕ)} (r, (left₁, d)) (s, (left₂, e))
+unpacks-settled {left₁ = m} {left₂ = n} {d = d} {e = e} {r = r} {s = s} p q =
+    let same = answers-apart r s d e (alike (p .answer) (q .answer)) in
+    let spent : symbolsOf r ≡ symbolsOf s = ap symbolsOf (same .0) in
+    let left : m ≡ n = omega (arith, p .spent, q .spent) in
+    λ i. (same .0 i, (left i, same .1 i))
+
+pub unpack-level-settled : Settled {X = Unpacked × (ℕ × List ℕ)} unpack-level.Post
+    (λ a r (file, (bytes, (ce, (cs, (ae, (al, (level, (pitch, (distance, (budget, (dst, _))))))))))). (r, (now budget, now dst)))
+unpack-level-settled _ _ _ _ _ _ _ p q = unpacks-settled p q

@@ -1,0 +1,74 @@
+-- A chunk and a level's chunks. What is left open: the bits that a cursor has at hand, the indices of a plane that is not there, and what a level
+-- that is refused has left in the grid's blocks, which are then cleared.
+use Prim.Native.Nat.{ℕ}
+use mathlib.Core.Bool.{Bool}
+use mathlib.Core.Path.{_≡_, refl, sym, ap, _∙_}
+use mathlib.Core.List.{List}
+use native.Mathlib.Omega.{arith}
+use lib.ListN.{length}
+use denote.Ref.{now}
+use Rattle.crn_format.specs.Reading.{Step, got, refused, Spending}
+use Rattle.crn_format.specs.Level.{Running, Chunk}
+use Rattle.crn_format.specs.Grid.{chunkCount, painted, blank}
+use Rattle.crn_format.specs.declared.Grid.{Grid}
+use Rattle.crn_chunks.specs.Meaning.{spending, stopped, Served, runningOf}
+use Rattle.crn_chunks.specs.Reads.{chunked}
+use Rattle.crn_chunks.specs.declared.Carried.{Carried}
+use Rattle.crn_chunks.specs.declared.Stream.{Stream}
+use Rattle.crn_chunks.specs.declared.Stop.{Stop}
+use Rattle.crn_chunks.proofs.read_chunk.Reads as read-chunk
+use Rattle.crn_blocks.proofs.Whole.{wiped}
+use Rattle.crn_unpacker.specs.Going.{Given, given, Fit, Goes, none, stateAt}
+use Rattle.crn_unpacker.specs.declared.Went.{Went}
+use Rattle.crn_unpacker.specs.declared.Went.the-variants.{On, Stopped}
+use Rattle.crn_unpacker.proofs.Whole.{levelCourse, stands-first, through, early}
+use Rattle.crn_unpacker.proofs.paint.Reads as paint
+use Rattle.crn_laws_results.specs.Settled.{SettledIf, alike}
+
+-- the chunk and what is carried on from it, with the place after it and the budget that is left; or the refusal
+pub read-chunk-settled : SettledIf (λ (lookup, (sorted, (seg, (ps, _)))) r. Served ps (now lookup) (now sorted)) read-chunk.Post
+    (λ (lookup, (sorted, (seg, (ps, _)))) r (_, (_, (_, (_, (_, (_, (_, (_, (out, _))))))))). chunked (ps .two) (now out) r)
+read-chunk-settled _ _ _ _ _ _ _ h _ p q = alike (p .same (h .codes) (h .coded)) (q .same (h .codes) (h .coded))
+
+-- ---- a level's chunks
+
+-- how they ended
+abbrev pub went : Bool → Went → Step Spending Running
+went two (On r t) = got (runningOf two r) (spending t)
+went two (Stopped x) = stopped x
+
+-- what is left in the destination; of a refusal, once its grid is cleared
+abbrev pub left : Grid → Went → List ℕ → List ℕ
+left g (On r t) e = e
+left g (Stopped x) e = painted g (blank g) (g .faces) e
+
+module _ (l : Given) (s : Stream) (d : List ℕ) (fit : Fit l (length d)) where
+  abbrev codes : ℕ → List ℕ
+  codes = fit .served .codes
+
+  state-is : {e : List ℕ} (w : Went) → Goes l 0 (chunkCount (l .grid)) none s d e w → stateAt l (levelCourse l codes s) (chunkCount (l .grid)) ≡ went (l .planes .two) w
+  state-is (On r t) g = g .moved (levelCourse l codes s) (stands-first l codes s (fit .served .coded)) .on r t refl .state
+  state-is (Stopped x) g = g .moved (levelCourse l codes s) (stands-first l codes s (fit .served .coded)) .stop x refl .why
+
+  module _ {e f : List ℕ} where
+    by : (w v : Went) → went (l .planes .two) w ≡ went (l .planes .two) v → Goes l 0 (chunkCount (l .grid)) none s d e w → Goes l 0 (chunkCount (l .grid)) none s d f v
+        → left (l .grid) w e ≡ left (l .grid) v f
+    by (On r t) (On q u) same g h =
+        alike (through g codes (fit .served .coded) fit refl .picture) (through h codes (fit .served .coded) fit refl .picture)
+    by (On r t) (Stopped x) same g h = let z : _≡_ {A = ℕ} 0 1 = cc in absurd (omega arith)
+    by (Stopped x) (On r t) same g h = let z : _≡_ {A = ℕ} 0 1 = cc in absurd (omega arith)
+    by (Stopped x) (Stopped y) same g h =
+        alike (wiped (fit .room) (early g codes (fit .served .coded) refl .rest)) (wiped (fit .room) (early h codes (fit .served .coded) refl .rest))
+
+    goes-settled : (w v : Went) → Goes l 0 (chunkCount (l .grid)) none s d e w → Goes l 0 (chunkCount (l .grid)) none s d f v
+        → _≡_ {A = Step Spending Running × List ℕ} (went (l .planes .two) w, left (l .grid) w e) (went (l .planes .two) v, left (l .grid) v f)
+    goes-settled w v g h =
+        let same : went (l .planes .two) w ≡ went (l .planes .two) v = sym (state-is w g) ∙ state-is v h in
+        λ i. (same i, by w v same g h i)
+
+pub paint-settled : SettledIf {X = Step Spending Running × List ℕ}
+    (λ (dst, (lookup, (sorted, (seg, (cends, (csels, (aends, (asels, (ps, (g, _)))))))))) w.
+    Fit (given (now lookup) (now sorted) (now seg) (now cends) (now csels) (now aends) (now asels) ps g) (length (now dst)))
+    paint.Post (λ (_, (_, (_, (_, (_, (_, (_, (_, (ps, (g, _)))))))))) w (dst, _). (went (ps .two) w, left g w (now dst)))
+paint-settled _ _ (dst, (lookup, (sorted, (seg, (cends, (csels, (aends, (asels, (ps, (g, (s, _))))))))))) w v _ _ fit _ p q =
+    goes-settled (given (now lookup) (now sorted) (now seg) (now cends) (now csels) (now aends) (now asels) ps g) s (now dst) fit w v p q

@@ -1,0 +1,47 @@
+-- The palettes: the answer and the lent buffer are fixed; so is the table of the alpha selectors' deltas.
+use Prim.Native.Nat.{ℕ, zero, suc, _+_, _*_, _/_, _%_}
+use mathlib.Core.Path.{_≡_, refl, sym, ap, _∙_}
+use mathlib.Core.List.{List}
+use native.Mathlib.Omega.{arith}
+use lib.ListN.{length, getD}
+use lib.Seq.{ext-getD}
+use denote.Ref.{now}
+use Rattle.crn_consts.specs.declared.Deltas.{Deltas}
+use Rattle.crn_consts.specs.AlphaDeltas.{AllDeltas, AlphaDeltas, alphaDeltas}
+use Rattle.crn_consts.proofs.alpha_delta_pairs.Reads as alpha-delta-pairs
+use Rattle.crn_palettes.specs.declared.Ended.{Ended}
+use Rattle.crn_palettes.proofs.color_endpoints.Reads as color-endpoints
+use Rattle.crn_palettes.proofs.color_selectors.Reads as color-selectors
+use Rattle.crn_palettes.proofs.alpha_endpoints.Reads as alpha-endpoints
+use Rattle.crn_palettes.proofs.alpha_selectors.Reads as alpha-selectors
+use Rattle.crn_laws_results.specs.Settled.{Settled, SettledIf, theAnswer, alike, alike₂}
+
+pub color-endpoints-settled : Settled {X = Ended × List ℕ} color-endpoints.Post (λ a r (seg, (count, (out, _))). (r, now out))
+color-endpoints-settled _ _ _ _ _ _ _ p q = alike₂ (p .answer) (q .answer) (p .holds) (q .holds)
+
+pub color-selectors-settled : Settled {X = Ended × List ℕ} color-selectors.Post (λ a r (seg, (count, (out, _))). (r, now out))
+color-selectors-settled _ _ _ _ _ _ _ p q = alike₂ (p .answer) (q .answer) (p .holds) (q .holds)
+
+pub alpha-endpoints-settled : Settled {X = Ended × List ℕ} alpha-endpoints.Post (λ a r (seg, (count, (out, _))). (r, now out))
+alpha-endpoints-settled _ _ _ _ _ _ _ p q = alike₂ (p .answer) (q .answer) (p .holds) (q .holds)
+
+pub alpha-selectors-settled : Settled {X = Ended × List ℕ} alpha-selectors.Post (λ a r (seg, (count, (out, _))). (r, now out))
+alpha-selectors-settled _ _ _ _ _ _ _ p q = alike₂ (p .answer) (q .answer) (p .holds) (q .holds)
+
+-- ---- the table of pairs, which has 450 bytes as its type says
+
+-- the pair of symbol s
+pair-fixed : {t : List ℕ} → AllDeltas t → (s : ℕ) → (getD t (2 * s) 0 ≡ alphaDeltas s .first) × (getD t (2 * s + 1) 0 ≡ alphaDeltas s .second)
+pair-fixed {t} h s =
+    let d = h .each s (record { first = getD t (2 * s) 0; second = getD t (2 * s + 1) 0 }) (record { value = refl }) .rule in
+    (ap (λ (x : Deltas). x .first) d, ap (λ (x : Deltas). x .second) d)
+
+byte-fixed : {t u : List ℕ} → AllDeltas t → AllDeltas u → (i odd : ℕ) → i % 2 ≡ odd → getD t i 0 ≡ getD u i 0
+byte-fixed h g i zero e =
+    let at : i ≡ 2 * (i / 2) = omega arith in rw at (alike (pair-fixed h (i / 2) .0) (pair-fixed g (i / 2) .0))
+byte-fixed h g i (suc zero) e =
+    let at : i ≡ 2 * (i / 2) + 1 = omega arith in rw at (alike (pair-fixed h (i / 2) .1) (pair-fixed g (i / 2) .1))
+byte-fixed h g i (suc (suc n)) e = let z : ⊥ = omega arith in absurd z
+
+pub alpha-delta-pairs-settled : SettledIf (λ a t. length t ≡ 450) alpha-delta-pairs.Post theAnswer
+alpha-delta-pairs-settled _ _ _ t u _ _ long₁ long₂ p q = ext-getD 0 t u (alike long₁ long₂) (λ i _. byte-fixed p q i (i % 2) refl)

@@ -1,0 +1,76 @@
+-- Code tables: what is received is fixed but for the bits that the next cursor has at hand, and every draw from a table that was built is.
+use Prim.Native.Nat.{ℕ}
+use mathlib.Core.Bool.{Bool, true, false}
+use mathlib.Core.Path.{_≡_, refl, sym, ap, _∙_}
+use mathlib.Core.List.{List, []}
+use native.Mathlib.Omega.{arith}
+use lib.Dec.{eqb}
+use borrow.Author.Tests.{eqb-true, eqb-false}
+use contract.Lifetimes.{Lfts}
+use denote.Ref.{RefT, now}
+use Rattle.crn_format.specs.Choice.{pick}
+use Rattle.crn_format.specs.Reading.{Step, got, refused, Place, spot}
+use Rattle.crn_format.specs.Opening.{tableOf}
+use Rattle.crn_format.specs.Unpacking.{lengthsOf}
+use Rattle.crn_format.specs.declared.Table.{Table}
+use Rattle.crn_symbol_codec.specs.Cursors.{place}
+use Rattle.crn_symbol_codec.specs.Drawing.{drew}
+use Rattle.crn_symbol_codec.specs.declared.Cursor.{Cursor}
+use Rattle.crn_symbol_codec.specs.declared.Taken.{Taken}
+use Rattle.crn_static_huffman_data_model.specs.declared.Received.{Received}
+use Rattle.crn_static_huffman_data_model.specs.Receiving.{said, Receives}
+use Rattle.crn_static_huffman_data_model.proofs.receive.Reads as receive
+use Rattle.crn_static_huffman_data_model.proofs.build.Reads as build
+use Rattle.crn_static_huffman_data_model.proofs.draw.Reads as draw
+use Rattle.crn_laws_results.specs.Settled.{Settled, alike}
+use Rattle.crn_laws_results.proofs.Cursors.{takes-settled}
+
+-- what is seen of a table that was received: the refusal, the bit that it names or the next place, the table, and the cursor's place
+pub record Seen : Type 0 where
+  pub refusal : ℕ
+  pub at : ℕ
+  pub table : Table
+  pub place : ℕ
+
+abbrev pub seen : Received → Seen
+seen r = record { refusal = r .refusal; at = r .at; table = r .table; place = place (r .cursor) }
+
+module _ {seg : List ℕ} {c : Cursor} {r s : Received} (p : Receives seg c r) (q : Receives seg c s) where
+  steps : said (r .refusal) (r .at) (lengthsOf (r .table)) (p .blamed) ≡ said (s .refusal) (s .at) (lengthsOf (s .table)) (q .blamed)
+  steps = sym (p .same 0) ∙ q .same 0
+
+  by : (a b : Bool) → eqb (r .refusal) 0 ≡ a → eqb (s .refusal) 0 ≡ b
+      → pick a (got (lengthsOf (r .table)) (spot (r .at) (p .blamed))) (refused (r .refusal) (spot (r .at) (r .at)))
+      ≡ pick b (got (lengthsOf (s .table)) (spot (s .at) (q .blamed))) (refused (s .refusal) (spot (s .at) (s .at)))
+      → seen r ≡ seen s
+  by true true e f h =
+      let zero : r .refusal ≡ s .refusal = alike (eqb-true _ _ e) (eqb-true _ _ f) in
+      let spots : spot (r .at) (p .blamed) ≡ spot (s .at) (q .blamed) = cc in
+      let at : r .at ≡ s .at = ap (λ (x : Place). x .at) spots in
+      let ls : lengthsOf (r .table) ≡ lengthsOf (s .table) = cc in
+      let table : r .table ≡ s .table = p .whole ∙ ap tableOf ls ∙ sym (q .whole) in
+      let here : place (r .cursor) ≡ place (s .cursor) = p .goes (eqb-true _ _ e) .1 ∙ at ∙ sym (q .goes (eqb-true _ _ f) .1) in
+      λ i. record { refusal = zero i; at = at i; table = table i; place = here i }
+  by true false e f h = let z : _≡_ {A = ℕ} 0 1 = cc in absurd (omega arith)
+  by false true e f h = let z : _≡_ {A = ℕ} 0 1 = cc in absurd (omega arith)
+  by false false e f h =
+      let number : r .refusal ≡ s .refusal = cc in
+      let spots : spot (r .at) (r .at) ≡ spot (s .at) (s .at) = cc in
+      let at : r .at ≡ s .at = ap (λ (x : Place). x .at) spots in
+      let one = p .stays (eqb-false _ _ e) in
+      let other = q .stays (eqb-false _ _ f) in
+      λ i. record { refusal = number i; at = at i; table = alike (one .0) (other .0) i; place = place (alike (one .1) (other .1) i) }
+
+  receives-settled : seen r ≡ seen s
+  receives-settled = by (eqb (r .refusal) 0) (eqb (s .refusal) 0) refl refl (unfold said in steps)
+
+pub receive-settled : Settled receive.Post (λ a r e. seen r)
+receive-settled _ _ _ _ _ _ _ p q = receives-settled p q
+
+-- ---- two tables that were built of the same lengths: whatever a draw from the one gives, a draw from the other gives
+
+module _ (κ₁ κ₂ : Lfts 3) (given d e : RefT (List ℕ) × (ℕ × (RefT (List ℕ) × (RefT (List ℕ) × Unit {0})))) (p : build.Post κ₁ given tt d) (q : build.Post κ₂ given tt e)
+    (seg : RefT (List ℕ)) (c : Cursor) where
+  pub build-settled : (κ₃ κ₄ : Lfts 3) (r s : Taken) (f g : RefT (List ℕ) × (RefT (List ℕ) × (RefT (List ℕ) × (Cursor × Unit {0}))))
+      → draw.Post κ₃ (d .1 .1 .0, (d .1 .1 .1 .0, (seg, (c, tt)))) r f → draw.Post κ₄ (e .1 .1 .0, (e .1 .1 .1 .0, (seg, (c, tt)))) s g → drew r ≡ drew s
+  build-settled _ _ _ _ _ _ x y = takes-settled (x (now (given .0)) p) (y (now (given .0)) q)

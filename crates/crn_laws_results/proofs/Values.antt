@@ -1,0 +1,200 @@
+-- Functions whose contract names the value of their answer, or of what they leave in the lent slice.
+use Prim.Native.Nat.{ℕ}
+use denote.Ref.{now}
+use Rattle.crn_utils.proofs.limit.Reads as limit
+use Rattle.crn_utils.proofs.byte.Reads as byte
+use Rattle.crn_utils.proofs.big16.Reads as big16
+use Rattle.crn_utils.proofs.big24.Reads as big24
+use Rattle.crn_utils.proofs.big32.Reads as big32
+use Rattle.crn_utils.proofs.little32.Reads as little32
+use Rattle.crn_utils.proofs.little64.Reads as little64
+use Rattle.crn_utils.proofs.put_little64.Reads as put-little64
+use Rattle.crn_consts.proofs.tile_count.Reads as tile-count
+use Rattle.crn_consts.proofs.tile.Reads as tile
+use Rattle.crn_consts.proofs.color_from_linear.Reads as color-from-linear
+use Rattle.crn_consts.proofs.alpha_from_linear.Reads as alpha-from-linear
+use Rattle.crn_consts.proofs.length_symbol.Reads as length-symbol
+use Rattle.crn_consts.proofs.alpha_deltas.Reads as alpha-deltas
+use Rattle.crn_formats.proofs.between.Reads as between
+use Rattle.crn_formats.proofs.implies.Reads as implies
+use Rattle.crn_formats.proofs.has_color.Reads as has-color
+use Rattle.crn_formats.proofs.has_alpha.Reads as has-alpha
+use Rattle.crn_formats.proofs.is_known.Reads as is-known
+use Rattle.crn_formats.proofs.block_bytes.Reads as block-bytes
+use Rattle.crn_decomp.proofs.is_signed.Reads as is-signed
+use Rattle.crn_decomp.proofs.header_of.Reads as header-of
+use Rattle.crn_decomp.proofs.within_limits.Reads as within-limits
+use Rattle.crn_decomp.proofs.sizes_hold.Reads as sizes-hold
+use Rattle.crn_decomp.proofs.look.Reads as look
+use Rattle.crn_decomp.proofs.segments_stand.Reads as segments-stand
+use Rattle.crn_decomp.proofs.room_for.Reads as room-for
+use Rattle.crn_grid.proofs.columns_of.Reads as columns-of
+use Rattle.crn_grid.proofs.rows_of.Reads as rows-of
+use Rattle.crn_grid.proofs.grid_fits.Reads as grid-fits
+use Rattle.crn_grid.proofs.reaches.Reads as reaches
+use Rattle.crn_grid.proofs.level_start.Reads as level-start
+use Rattle.crn_grid.proofs.level_end.Reads as level-end
+use Rattle.crn_grid.proofs.level_stands.Reads as level-stands
+use Rattle.crn_grid.proofs.palettes_reach.Reads as palettes-reach
+use Rattle.crn_symbol_codec.proofs.refusal.Reads as refusal
+use Rattle.crn_symbol_codec.proofs.place.Reads as place
+use Rattle.crn_static_huffman_data_model.proofs.is_code.Reads as is-code
+use Rattle.crn_palettes.proofs.clear32.Reads as clear32
+use Rattle.crn_palettes.proofs.clear16.Reads as clear16
+use Rattle.crn_blocks.proofs.put_block.Reads as put-block
+use Rattle.crn_blocks.proofs.clear.Reads as clear
+use Rattle.crn_blocks.proofs.cutouts.Reads as cutouts
+use Rattle.crn_edits.proofs.edited.Reads as edited
+use Rattle.fnv.proofs.step.Reads as step
+use Rattle.crn_laws_results.specs.Settled.{Settled, theAnswer, alike}
+
+-- ---- crn_utils
+
+pub limit-settled : Settled limit.Post theAnswer
+limit-settled _ _ _ _ _ _ _ p q = alike p q
+
+pub byte-settled : Settled byte.Post theAnswer
+byte-settled _ _ _ _ _ _ _ p q = alike (p .0) (q .0)
+
+pub big16-settled : Settled big16.Post theAnswer
+big16-settled _ _ _ _ _ _ _ p q = alike (p .0) (q .0)
+
+pub big24-settled : Settled big24.Post theAnswer
+big24-settled _ _ _ _ _ _ _ p q = alike (p .0) (q .0)
+
+pub big32-settled : Settled big32.Post theAnswer
+big32-settled _ _ _ _ _ _ _ p q = alike p q
+
+pub little32-settled : Settled little32.Post theAnswer
+little32-settled _ _ _ _ _ _ _ p q = alike p q
+
+pub little64-settled : Settled little64.Post theAnswer
+little64-settled _ _ _ _ _ _ _ p q = alike p q
+
+pub put-little64-settled : Settled put-little64.Post (λ a r e. now (e .0))
+put-little64-settled _ _ _ _ _ _ _ p q = alike p q
+
+-- ---- crn_consts
+
+pub tile-count-settled : Settled tile-count.Post theAnswer
+tile-count-settled _ _ _ _ _ _ _ p q = alike (p .0) (q .0)
+
+pub tile-settled : Settled tile.Post theAnswer
+tile-settled _ _ _ _ _ _ _ p q = alike (p .0) (q .0)
+
+pub color-from-linear-settled : Settled color-from-linear.Post theAnswer
+color-from-linear-settled _ _ _ _ _ _ _ p q = alike (p .0) (q .0)
+
+pub alpha-from-linear-settled : Settled alpha-from-linear.Post theAnswer
+alpha-from-linear-settled _ _ _ _ _ _ _ p q = alike (p .0) (q .0)
+
+pub length-symbol-settled : Settled length-symbol.Post theAnswer
+length-symbol-settled _ _ _ _ _ _ _ p q = alike (p .0) (q .0)
+
+pub alpha-deltas-settled : Settled alpha-deltas.Post theAnswer
+alpha-deltas-settled _ _ _ _ _ _ _ p q = alike (p .rule) (q .rule)
+
+-- ---- crn_formats
+
+pub between-settled : Settled between.Post theAnswer
+between-settled _ _ _ _ _ _ _ p q = alike p q
+
+pub implies-settled : Settled implies.Post theAnswer
+implies-settled _ _ _ _ _ _ _ p q = alike p q
+
+pub has-color-settled : Settled has-color.Post theAnswer
+has-color-settled _ _ _ _ _ _ _ p q = alike p q
+
+pub has-alpha-settled : Settled has-alpha.Post theAnswer
+has-alpha-settled _ _ _ _ _ _ _ p q = alike p q
+
+pub is-known-settled : Settled is-known.Post theAnswer
+is-known-settled _ _ _ _ _ _ _ p q = alike p q
+
+pub block-bytes-settled : Settled block-bytes.Post theAnswer
+block-bytes-settled _ _ _ _ _ _ _ p q = alike p q
+
+-- ---- crn_decomp
+
+pub is-signed-settled : Settled is-signed.Post theAnswer
+is-signed-settled _ _ _ _ _ _ _ p q = alike p q
+
+pub header-of-settled : Settled header-of.Post theAnswer
+header-of-settled _ _ _ _ _ _ _ p q = alike p q
+
+pub within-limits-settled : Settled within-limits.Post theAnswer
+within-limits-settled _ _ _ _ _ _ _ p q = alike p q
+
+pub sizes-hold-settled : Settled sizes-hold.Post theAnswer
+sizes-hold-settled _ _ _ _ _ _ _ p q = alike p q
+
+pub look-settled : Settled look.Post theAnswer
+look-settled _ _ _ _ _ _ _ p q = alike p q
+
+pub segments-stand-settled : Settled segments-stand.Post theAnswer
+segments-stand-settled _ _ _ _ _ _ _ p q = alike p q
+
+pub room-for-settled : Settled room-for.Post theAnswer
+room-for-settled _ _ _ _ _ _ _ p q = alike p q
+
+-- ---- crn_grid
+
+pub columns-of-settled : Settled columns-of.Post theAnswer
+columns-of-settled _ _ _ _ _ _ _ p q = alike (p .0 0 0) (q .0 0 0)
+
+pub rows-of-settled : Settled rows-of.Post theAnswer
+rows-of-settled _ _ _ _ _ _ _ p q = alike (p .0 0 0) (q .0 0 0)
+
+pub grid-fits-settled : Settled grid-fits.Post theAnswer
+grid-fits-settled _ _ _ _ _ _ _ p q = alike p q
+
+pub reaches-settled : Settled reaches.Post theAnswer
+reaches-settled _ _ _ _ _ _ _ p q = alike p q
+
+pub level-start-settled : Settled level-start.Post theAnswer
+level-start-settled _ _ _ _ _ _ _ p q = alike p q
+
+pub level-end-settled : Settled level-end.Post theAnswer
+level-end-settled _ _ _ _ _ _ _ p q = alike p q
+
+pub level-stands-settled : Settled level-stands.Post theAnswer
+level-stands-settled _ _ _ _ _ _ _ p q = alike p q
+
+pub palettes-reach-settled : Settled palettes-reach.Post theAnswer
+palettes-reach-settled _ _ _ _ _ _ _ p q = alike p q
+
+-- ---- crn_symbol_codec, crn_static_huffman_data_model: those that answer no cursor
+
+pub refusal-settled : Settled refusal.Post theAnswer
+refusal-settled _ _ _ _ _ _ _ p q = alike p q
+
+pub place-settled : Settled place.Post theAnswer
+place-settled _ _ _ _ _ _ _ p q = alike p q
+
+pub is-code-settled : Settled is-code.Post theAnswer
+is-code-settled _ _ _ _ _ _ _ p q = alike p q
+
+-- ---- crn_palettes, crn_blocks: lent slices
+
+pub clear32-settled : Settled clear32.Post (λ a r e. now (e .0))
+clear32-settled _ _ _ _ _ _ _ p q = alike p q
+
+pub clear16-settled : Settled clear16.Post (λ a r e. now (e .0))
+clear16-settled _ _ _ _ _ _ _ p q = alike p q
+
+pub put-block-settled : Settled put-block.Post (λ a r e. now (e .0))
+put-block-settled _ _ _ _ _ _ _ p q = alike p q
+
+pub clear-settled : Settled clear.Post (λ a r e. now (e .0))
+clear-settled _ _ _ _ _ _ _ p q = alike p q
+
+pub cutouts-settled : Settled cutouts.Post theAnswer
+cutouts-settled _ _ _ _ _ _ _ p q = alike p q
+
+-- ---- crn_edits, fnv
+
+pub edited-settled : Settled edited.Post theAnswer
+edited-settled _ _ _ _ _ _ _ p q = alike p q
+
+pub step-settled : Settled step.Post theAnswer
+step-settled _ _ _ _ _ _ _ p q = alike p q
