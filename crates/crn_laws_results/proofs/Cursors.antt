@@ -3,7 +3,6 @@
 use Prim.Native.Nat.{ℕ}
 use mathlib.Core.Path.{_≡_, refl, sym, ap, _∙_}
 use mathlib.Core.List.{List}
-use native.Mathlib.Omega.{arith}
 use denote.Ref.{now}
 use Rattle.crn_format.specs.Codes.{Drawn, symbolAt, failed}
 use Rattle.crn_format.specs.Reading.{Want, Step, got, refused, Place, spot, served}
@@ -22,6 +21,7 @@ use Rattle.crn_symbol_codec.proofs.draw.Reads as draw
 use Rattle.crn_static_huffman_data_model.proofs.ready.Reads as ready
 use Rattle.crn_static_huffman_data_model.proofs.draw.Reads as model-draw
 use Rattle.crn_laws_results.specs.Settled.{Settled, SettledIf, alike}
+use Rattle.crn_laws_results.proofs.Steps.{got-tells, refused-tells, got-or-refused}
 
 -- ---- a cursor's place
 
@@ -37,11 +37,10 @@ ready-settled _ _ _ _ _ _ _ p q = alike (p .1) (q .1)
 -- ---- what is taken: `drew` is the value and the place after it, or the refusal
 
 took-tells : (p : ℕ) (r s : Taken) → took p 0 r ≡ took p 0 s → drew r ≡ drew s
-took-tells p (Value v c) (Value w d) e =
-    let x : v ≡ w = cc in let y : spot (place c) 0 ≡ spot (place d) 0 = cc in λ i. symbolAt (x i) (y i .at)
-took-tells p (Value v c) (Failed n) e = let z : _≡_ {A = ℕ} 0 1 = cc in absurd (omega arith)
-took-tells p (Failed n) (Value v c) e = let z : _≡_ {A = ℕ} 0 1 = cc in absurd (omega arith)
-took-tells p (Failed n) (Failed m) e = let x : n ≡ m = cc in ap failed x
+took-tells p (Value v c) (Value w d) e = let both = got-tells e in λ i. symbolAt (both .0 i) (both .1 i .at)
+took-tells p (Value v c) (Failed n) e = absurd (got-or-refused e)
+took-tells p (Failed n) (Value v c) e = absurd (got-or-refused (sym e))
+took-tells p (Failed n) (Failed m) e = ap failed (refused-tells e .0)
 
 pub takes-settled : {seg : List ℕ} {x : Want} {c : Cursor} {r s : Taken} → Takes seg x c r → Takes seg x c s → drew r ≡ drew s
 takes-settled {c = c} {r = r} {s = s} p q = took-tells (place c) r s (alike (p .same 0) (q .same 0))

@@ -2,6 +2,7 @@ pub mod Values
 pub mod Entry
 pub mod Palettes
 pub mod Halves
+pub mod Steps
 pub mod Cursors
 pub mod Tables
 pub mod Painting

@@ -4,7 +4,6 @@ use Prim.Native.Nat.{ℕ}
 use mathlib.Core.Bool.{Bool}
 use mathlib.Core.Path.{_≡_, refl, sym, ap, _∙_}
 use mathlib.Core.List.{List}
-use native.Mathlib.Omega.{arith}
 use lib.ListN.{length}
 use denote.Ref.{now}
 use Rattle.crn_format.specs.Reading.{Step, got, refused, Spending}
@@ -24,6 +23,7 @@ use Rattle.crn_unpacker.specs.declared.Went.the-variants.{On, Stopped}
 use Rattle.crn_unpacker.proofs.Whole.{levelCourse, stands-first, through, early}
 use Rattle.crn_unpacker.proofs.paint.Reads as paint
 use Rattle.crn_laws_results.specs.Settled.{SettledIf, alike}
+use Rattle.crn_laws_results.proofs.Steps.{got-or-refused}
 
 -- the chunk and what is carried on from it, with the place after it and the budget that is left; or the refusal
 pub read-chunk-settled : SettledIf (λ (lookup, (sorted, (seg, (ps, _)))) r. Served ps (now lookup) (now sorted)) read-chunk.Post
@@ -55,8 +55,8 @@ module _ (l : Given) (s : Stream) (d : List ℕ) (fit : Fit l (length d)) where
         → left (l .grid) w e ≡ left (l .grid) v f
     by (On r t) (On q u) same g h =
         alike (through g codes (fit .served .coded) fit refl .picture) (through h codes (fit .served .coded) fit refl .picture)
-    by (On r t) (Stopped x) same g h = let z : _≡_ {A = ℕ} 0 1 = cc in absurd (omega arith)
-    by (Stopped x) (On r t) same g h = let z : _≡_ {A = ℕ} 0 1 = cc in absurd (omega arith)
+    by (On r t) (Stopped x) same g h = absurd (got-or-refused same)
+    by (Stopped x) (On r t) same g h = absurd (got-or-refused (sym same))
     by (Stopped x) (Stopped y) same g h =
         alike (wiped (fit .room) (early g codes (fit .served .coded) refl .rest)) (wiped (fit .room) (early h codes (fit .served .coded) refl .rest))
 

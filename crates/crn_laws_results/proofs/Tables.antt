@@ -3,7 +3,6 @@ use Prim.Native.Nat.{ℕ}
 use mathlib.Core.Bool.{Bool, true, false}
 use mathlib.Core.Path.{_≡_, refl, sym, ap, _∙_}
 use mathlib.Core.List.{List, []}
-use native.Mathlib.Omega.{arith}
 use lib.Dec.{eqb}
 use borrow.Author.Tests.{eqb-true, eqb-false}
 use contract.Lifetimes.{Lfts}
@@ -23,6 +22,7 @@ use Rattle.crn_static_huffman_data_model.proofs.receive.Reads as receive
 use Rattle.crn_static_huffman_data_model.proofs.build.Reads as build
 use Rattle.crn_static_huffman_data_model.proofs.draw.Reads as draw
 use Rattle.crn_laws_results.specs.Settled.{Settled, alike}
+use Rattle.crn_laws_results.proofs.Steps.{got-tells, refused-tells, got-or-refused}
 use Rattle.crn_laws_results.proofs.Cursors.{takes-settled}
 
 -- what is seen of a table that was received: the refusal, the bit that it names or the next place, the table, and the cursor's place
@@ -44,22 +44,19 @@ module _ {seg : List ℕ} {c : Cursor} {r s : Received} (p : Receives seg c r) (
       ≡ pick b (got (lengthsOf (s .table)) (spot (s .at) (q .blamed))) (refused (s .refusal) (spot (s .at) (s .at)))
       → seen r ≡ seen s
   by true true e f h =
+      let both = got-tells h in
       let zero : r .refusal ≡ s .refusal = alike (eqb-true _ _ e) (eqb-true _ _ f) in
-      let spots : spot (r .at) (p .blamed) ≡ spot (s .at) (q .blamed) = cc in
-      let at : r .at ≡ s .at = ap (λ (x : Place). x .at) spots in
-      let ls : lengthsOf (r .table) ≡ lengthsOf (s .table) = cc in
-      let table : r .table ≡ s .table = p .whole ∙ ap tableOf ls ∙ sym (q .whole) in
+      let at : r .at ≡ s .at = ap (λ (x : Place). x .at) (both .1) in
+      let table : r .table ≡ s .table = p .whole ∙ ap tableOf (both .0) ∙ sym (q .whole) in
       let here : place (r .cursor) ≡ place (s .cursor) = p .goes (eqb-true _ _ e) .1 ∙ at ∙ sym (q .goes (eqb-true _ _ f) .1) in
       λ i. record { refusal = zero i; at = at i; table = table i; place = here i }
-  by true false e f h = let z : _≡_ {A = ℕ} 0 1 = cc in absurd (omega arith)
-  by false true e f h = let z : _≡_ {A = ℕ} 0 1 = cc in absurd (omega arith)
+  by true false e f h = absurd (got-or-refused h)
+  by false true e f h = absurd (got-or-refused (sym h))
   by false false e f h =
-      let number : r .refusal ≡ s .refusal = cc in
-      let spots : spot (r .at) (r .at) ≡ spot (s .at) (s .at) = cc in
-      let at : r .at ≡ s .at = ap (λ (x : Place). x .at) spots in
+      let both = refused-tells h in
       let one = p .stays (eqb-false _ _ e) in
       let other = q .stays (eqb-false _ _ f) in
-      λ i. record { refusal = number i; at = at i; table = alike (one .0) (other .0) i; place = place (alike (one .1) (other .1) i) }
+      λ i. record { refusal = both .0 i; at = both .1 i .at; table = alike (one .0) (other .0) i; place = place (alike (one .1) (other .1) i) }
 
   receives-settled : seen r ≡ seen s
   receives-settled = by (eqb (r .refusal) 0) (eqb (s .refusal) 0) refl refl (unfold said in steps)
