@@ -1,6 +1,6 @@
 -- The functions that the benchmarks call.
 use Prim.Native.Nat.{ℕ}
-use mathlib.Core.Path.{_≡_, sym, ap, _∙_}
+use mathlib.Core.Path.{sym, ap, _∙_}
 use mathlib.Core.List.{List}
 use denote.Ref.{now}
 use Rattle.crn_format.specs.Opening.{Palettes}

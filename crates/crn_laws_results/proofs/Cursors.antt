@@ -1,14 +1,13 @@
 -- Cursors, and what is taken from them: the value and the place after it are fixed, or the refusal is. How many bits a cursor has at hand is left
 -- open.
 use Prim.Native.Nat.{ℕ}
-use mathlib.Core.Path.{_≡_, refl, sym, ap, _∙_}
+use mathlib.Core.Path.{_≡_, sym, ap}
 use mathlib.Core.List.{List}
 use denote.Ref.{now}
-use Rattle.crn_format.specs.Codes.{Drawn, symbolAt, failed}
-use Rattle.crn_format.specs.Reading.{Want, Step, got, refused, Place, spot, served}
+use Rattle.crn_format.specs.Codes.{symbolAt, failed}
+use Rattle.crn_format.specs.Reading.{Want}
 use Rattle.crn_symbol_codec.specs.Cursors.{place}
 use Rattle.crn_symbol_codec.specs.Taking.{took, Takes}
-use Rattle.crn_symbol_codec.specs.Decoders.{Decodes}
 use Rattle.crn_symbol_codec.specs.Drawing.{drew}
 use Rattle.crn_symbol_codec.specs.declared.Cursor.{Cursor}
 use Rattle.crn_symbol_codec.specs.declared.Taken.{Taken}
@@ -21,6 +20,7 @@ use Rattle.crn_symbol_codec.proofs.draw.Reads as draw
 use Rattle.crn_static_huffman_data_model.proofs.ready.Reads as ready
 use Rattle.crn_static_huffman_data_model.proofs.draw.Reads as model-draw
 use Rattle.crn_laws_results.specs.Settled.{Settled, SettledIf, alike}
+use Rattle.crn_laws_results.specs.Seen.{OfCode}
 use Rattle.crn_laws_results.proofs.Steps.{got-tells, refused-tells, got-or-refused}
 
 -- ---- a cursor's place
@@ -49,10 +49,6 @@ pub number-settled : Settled number.Post (λ a r e. drew r)
 number-settled _ _ _ _ _ _ _ p q = takes-settled p q
 
 -- ---- a draw, from a table that is some code's
-
-pub record OfCode (lookup sorted : List ℕ) : Type 0 where
-  pub lengths : List ℕ
-  pub decodes : Decodes lengths lookup sorted
 
 pub draw-ready-settled : SettledIf (λ (lookup, (sorted, _)) r. OfCode (now lookup) (now sorted)) draw-ready.Post (λ a r e. drew r)
 draw-ready-settled _ _ _ _ _ _ _ h _ p q = takes-settled (p .0 (h .lengths) (h .decodes)) (q .0 (h .lengths) (h .decodes))

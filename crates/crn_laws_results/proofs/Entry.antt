@@ -1,11 +1,11 @@
 -- The entry crate's two functions: the answer, the buffers, the budget and the destination are fixed.
-use Prim.Native.Nat.{ℕ, _+_}
-use mathlib.Core.Path.{_≡_, refl, sym, ap, _∙_}
+use Prim.Native.Nat.{ℕ}
+use mathlib.Core.Path.{_≡_, ap}
 use mathlib.Core.List.{List}
 use native.Mathlib.Omega.{arith}
 use denote.Ref.{now}
 use Rattle.crn_format.specs.Opening.{Palettes}
-use Rattle.crn_format.specs.Unpacking.{Unpacking, unpacked, declined}
+use Rattle.crn_format.specs.Unpacking.{Unpacking}
 use Rattle.crn_formats.specs.Lent.{lentOf}
 use Rattle.crn_opening.specs.declared.opening.Opened.{Opened}
 use Rattle.crn_opening.proofs.«open».Reads as opening

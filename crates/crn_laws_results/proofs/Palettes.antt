@@ -1,13 +1,13 @@
 -- The palettes: the answer and the lent buffer are fixed; so is the table of the alpha selectors' deltas.
 use Prim.Native.Nat.{ℕ, zero, suc, _+_, _*_, _/_, _%_}
-use mathlib.Core.Path.{_≡_, refl, sym, ap, _∙_}
+use mathlib.Core.Path.{_≡_, refl, ap}
 use mathlib.Core.List.{List}
 use native.Mathlib.Omega.{arith}
 use lib.ListN.{length, getD}
 use lib.Seq.{ext-getD}
 use denote.Ref.{now}
 use Rattle.crn_consts.specs.declared.Deltas.{Deltas}
-use Rattle.crn_consts.specs.AlphaDeltas.{AllDeltas, AlphaDeltas, alphaDeltas}
+use Rattle.crn_consts.specs.AlphaDeltas.{AllDeltas, alphaDeltas}
 use Rattle.crn_consts.proofs.alpha_delta_pairs.Reads as alpha-delta-pairs
 use Rattle.crn_palettes.specs.declared.Ended.{Ended}
 use Rattle.crn_palettes.proofs.color_endpoints.Reads as color-endpoints

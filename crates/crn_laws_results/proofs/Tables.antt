@@ -2,16 +2,15 @@
 use Prim.Native.Nat.{ℕ}
 use mathlib.Core.Bool.{Bool, true, false}
 use mathlib.Core.Path.{_≡_, refl, sym, ap, _∙_}
-use mathlib.Core.List.{List, []}
+use mathlib.Core.List.{List}
 use lib.Dec.{eqb}
 use borrow.Author.Tests.{eqb-true, eqb-false}
 use contract.Lifetimes.{Lfts}
 use denote.Ref.{RefT, now}
 use Rattle.crn_format.specs.Choice.{pick}
-use Rattle.crn_format.specs.Reading.{Step, got, refused, Place, spot}
+use Rattle.crn_format.specs.Reading.{got, refused, Place, spot}
 use Rattle.crn_format.specs.Opening.{tableOf}
 use Rattle.crn_format.specs.Unpacking.{lengthsOf}
-use Rattle.crn_format.specs.declared.Table.{Table}
 use Rattle.crn_symbol_codec.specs.Cursors.{place}
 use Rattle.crn_symbol_codec.specs.Drawing.{drew}
 use Rattle.crn_symbol_codec.specs.declared.Cursor.{Cursor}
@@ -22,18 +21,9 @@ use Rattle.crn_static_huffman_data_model.proofs.receive.Reads as receive
 use Rattle.crn_static_huffman_data_model.proofs.build.Reads as build
 use Rattle.crn_static_huffman_data_model.proofs.draw.Reads as draw
 use Rattle.crn_laws_results.specs.Settled.{Settled, alike}
+use Rattle.crn_laws_results.specs.Seen.{receivedSeen}
 use Rattle.crn_laws_results.proofs.Steps.{got-tells, refused-tells, got-or-refused}
 use Rattle.crn_laws_results.proofs.Cursors.{takes-settled}
-
--- what is seen of a table that was received: the refusal, the bit that it names or the next place, the table, and the cursor's place
-pub record Seen : Type 0 where
-  pub refusal : ℕ
-  pub at : ℕ
-  pub table : Table
-  pub place : ℕ
-
-abbrev pub seen : Received → Seen
-seen r = record { refusal = r .refusal; at = r .at; table = r .table; place = place (r .cursor) }
 
 module _ {seg : List ℕ} {c : Cursor} {r s : Received} (p : Receives seg c r) (q : Receives seg c s) where
   steps : said (r .refusal) (r .at) (lengthsOf (r .table)) (p .blamed) ≡ said (s .refusal) (s .at) (lengthsOf (s .table)) (q .blamed)
@@ -42,7 +32,7 @@ module _ {seg : List ℕ} {c : Cursor} {r s : Received} (p : Receives seg c r) (
   by : (a b : Bool) → eqb (r .refusal) 0 ≡ a → eqb (s .refusal) 0 ≡ b
       → pick a (got (lengthsOf (r .table)) (spot (r .at) (p .blamed))) (refused (r .refusal) (spot (r .at) (r .at)))
       ≡ pick b (got (lengthsOf (s .table)) (spot (s .at) (q .blamed))) (refused (s .refusal) (spot (s .at) (s .at)))
-      → seen r ≡ seen s
+      → receivedSeen r ≡ receivedSeen s
   by true true e f h =
       let both = got-tells h in
       let zero : r .refusal ≡ s .refusal = alike (eqb-true _ _ e) (eqb-true _ _ f) in
@@ -58,16 +48,17 @@ module _ {seg : List ℕ} {c : Cursor} {r s : Received} (p : Receives seg c r) (
       let other = q .stays (eqb-false _ _ f) in
       λ i. record { refusal = both .0 i; at = both .1 i .at; table = alike (one .0) (other .0) i; place = place (alike (one .1) (other .1) i) }
 
-  receives-settled : seen r ≡ seen s
+  receives-settled : receivedSeen r ≡ receivedSeen s
   receives-settled = by (eqb (r .refusal) 0) (eqb (s .refusal) 0) refl refl (unfold said in steps)
 
-pub receive-settled : Settled receive.Post (λ a r e. seen r)
+pub receive-settled : Settled receive.Post (λ a r e. receivedSeen r)
 receive-settled _ _ _ _ _ _ _ p q = receives-settled p q
 
--- ---- two tables that were built of the same lengths: whatever a draw from the one gives, a draw from the other gives
+-- ---- two tables that were built of the same lengths: whatever a draw from the one gives, a draw from the other gives. Of what `build` was given and
+-- leaves, the third is the lookup and the fourth the sorted symbols
 
-module _ (κ₁ κ₂ : Lfts 3) (given d e : RefT (List ℕ) × (ℕ × (RefT (List ℕ) × (RefT (List ℕ) × Unit {0})))) (p : build.Post κ₁ given tt d) (q : build.Post κ₂ given tt e)
-    (seg : RefT (List ℕ)) (c : Cursor) where
+module _ (κ₁ κ₂ : Lfts 3) (given d e : RefT (List ℕ) × (ℕ × (RefT (List ℕ) × (RefT (List ℕ) × Unit {0}))))
+    (p : build.Post κ₁ given tt d) (q : build.Post κ₂ given tt e) (seg : RefT (List ℕ)) (c : Cursor) where
   pub build-settled : (κ₃ κ₄ : Lfts 3) (r s : Taken) (f g : RefT (List ℕ) × (RefT (List ℕ) × (RefT (List ℕ) × (Cursor × Unit {0}))))
       → draw.Post κ₃ (d .1 .1 .0, (d .1 .1 .1 .0, (seg, (c, tt)))) r f → draw.Post κ₄ (e .1 .1 .0, (e .1 .1 .1 .0, (seg, (c, tt)))) s g → drew r ≡ drew s
   build-settled _ _ _ _ _ _ x y = takes-settled (x (now (given .0)) p) (y (now (given .0)) q)

@@ -1,5 +1,4 @@
 -- Functions whose contract names the value of their answer, or of what they leave in the lent slice.
-use Prim.Native.Nat.{ℕ}
 use denote.Ref.{now}
 use Rattle.crn_utils.proofs.limit.Reads as limit
 use Rattle.crn_utils.proofs.byte.Reads as byte

@@ -1,6 +1,6 @@
 -- A painted destination, byte by byte.
-use Prim.Native.Nat.{ℕ, _+_, _-_, _<_}
-use mathlib.Core.Logic.{_⊎_, inl, inr, ⊎-elim}
+use Prim.Native.Nat.{ℕ, _-_, _<_}
+use mathlib.Core.Logic.{inl, inr, ⊎-elim}
 use mathlib.Core.List.{List}
 use mathlib.Core.Path.{_≡_, refl, _∙_}
 use native.Mathlib.Omega.{arith}
@@ -9,7 +9,7 @@ use Rattle.crn_format.specs.Grid.{placeOf, painted, blank}
 use Rattle.crn_format.specs.declared.Grid.{Grid}
 use Rattle.crn_blocks.specs.Sheet.{In, Within, Room}
 use Rattle.crn_blocks.proofs.Places.{lies}
-use Rattle.crn_blocks.proofs.Bytes.{Holder, Free, look, Sized, painted-length, kept, drawn}
+use Rattle.crn_blocks.proofs.Bytes.{Free, look, Sized, painted-length, kept, drawn}
 use Rattle.crn_laws_total.specs.Leaves.{InBlock, Leaves}
 
 -- a byte of a block, by its number there or by where the block starts and ends

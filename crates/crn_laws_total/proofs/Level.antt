@@ -1,8 +1,8 @@
 -- Every level ends with blocks or with one of its twelve refusals, and leaves the destination as document 01 says.
-use Prim.Native.Nat.{ℕ, _*_}
+use Prim.Native.Nat.{ℕ}
 use mathlib.Core.Bool.{Bool, true, false}
 use mathlib.Core.List.{List, []}
-use mathlib.Core.Path.{_≡_, refl, sym, ap, _∙_}
+use mathlib.Core.Path.{_≡_, refl, _∙_}
 use native.Mathlib.Omega.{arith}
 use lib.ListN.{length, getD}
 use lib.Dec.{leb, ltb}
@@ -12,15 +12,15 @@ use Rattle.crn_format.specs.Header.{kindOf, withinLimits}
 use Rattle.crn_format.specs.Opening.{Palettes}
 use Rattle.crn_format.specs.Level.{Chunk}
 use Rattle.crn_format.specs.Grid.{Shade, color, alpha, chunkCount, insides, blockAt}
-use Rattle.crn_format.specs.Unpacking.{Unpacking, declined, lengthsOf, tablesHold, levelStands, levelSegment, palettesReach, gridOf, gridFits, reach, planesOf, shadesOf, colorPlane, alphaPlane, ended, levelReading, drawnLevel, unpacking}
+use Rattle.crn_format.specs.Unpacking.{declined, lengthsOf, tablesHold, levelStands, levelSegment, palettesReach, gridOf, gridFits, reach, planesOf, shadesOf, ended, levelReading, drawnLevel, unpacking}
 use Rattle.crn_format.specs.declared.Header.{Header}
 use Rattle.crn_format.specs.declared.Record.{Record}
 use Rattle.crn_format.specs.declared.Grid.{Grid}
 use Rattle.crn_blocks.specs.Sheet.{In, Room}
 use Rattle.crn_level.specs.Refusals.{firstFailed, refusalBy}
 use Rattle.crn_level.proofs.Checks.{all-checked}
-use Rattle.crn_laws_total.specs.Refusals.{among, beforeDraws, inDraws, levelRefusals}
-use Rattle.crn_laws_total.specs.Ends.{Declined, Accepted, LevelEnds}
+use Rattle.crn_laws_total.specs.Refusals.{among, beforeDraws, inDraws}
+use Rattle.crn_laws_total.specs.Ends.{Declined, LevelEnds}
 use Rattle.crn_laws_total.proofs.Numbers.{among-first, among-second, none-in-both}
 use Rattle.crn_laws_total.proofs.Refusing.{Stops, budget-stops}
 use Rattle.crn_laws_total.proofs.LevelReadings.{level-refuses}
@@ -110,7 +110,17 @@ module _ (r : Record) (file : List ℕ) (p : Palettes) (n pitch distance budget 
       by : (a b c d e f k : Bool) → withinLimits h ≡ a → tablesHold (r .tables) ≡ b → ltb n (h .levels) ≡ c → levelStands file h n ≡ d → palettesReach h p ≡ e
           → gridFits g ≡ f → leb (reach g) (length dst) ≡ k
           → LevelEnds r file p n pitch distance budget dst
-          (pick a (pick b (pick c (pick d (pick e (pick f (pick k (drawnLevel r seg p g budget dst) (declined 12 0 0 dst)) (declined 11 0 0 dst)) (declined 5 0 0 dst)) (declined 4 0 0 dst)) (declined 10 0 0 dst)) (declined 6 0 0 dst)) (declined 2 0 0 dst))
+          (pick a
+          (pick b
+          (pick c
+          (pick d
+          (pick e
+          (pick f (pick k (drawnLevel r seg p g budget dst) (declined 12 0 0 dst)) (declined 11 0 0 dst))
+          (declined 5 0 0 dst))
+          (declined 4 0 0 dst))
+          (declined 10 0 0 dst))
+          (declined 6 0 0 dst))
+          (declined 2 0 0 dst))
       by false b c d e f k e₁ e₂ e₃ e₄ e₅ e₆ e₇ = early 2 refl
       by true false c d e f k e₁ e₂ e₃ e₄ e₅ e₆ e₇ = early 6 refl
       by true true false d e f k e₁ e₂ e₃ e₄ e₅ e₆ e₇ = early 10 refl

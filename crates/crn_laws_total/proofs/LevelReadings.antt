@@ -14,12 +14,15 @@ use Rattle.crn_laws_total.proofs.Refusing.{Refuses, answers, refusing, 
 module _ (ok : ℕ → Bool) (fourteen : ok 14 ≡ true) where
   an-endpoint : (p : Plane) (i : ℕ) → Refuses ok (endpointIndex p i)
   unfolding endpointIndex
-  an-endpoint p i = symbol-then ok (p .endpointDeltas) _ (λ d. by-test ok (ltb (stepped (p .endpoints) i d) (p .endpoints)) _ _ (answers ok _) (refusing ok ℕ 14 fourteen))
+  an-endpoint p i =
+      symbol-then ok (p .endpointDeltas) _ (λ d. by-test ok (ltb (stepped (p .endpoints) i d) (p .endpoints)) _ _ (answers ok _)
+      (refusing ok ℕ 14 fourteen))
 
   a-selector : (p : Plane) (inside : Bool) (i : ℕ) → Refuses ok (selectorIndex p inside i)
   unfolding selectorIndex
   a-selector p inside i =
-      symbol-then ok (p .selectorDeltas) _ (λ d. by-test ok (either (ltb (stepped (p .selectors) i d) (p .selectors)) (not inside)) _ _ (answers ok _) (refusing ok ℕ 14 fourteen))
+      symbol-then ok (p .selectorDeltas) _ (λ d. by-test ok (either (ltb (stepped (p .selectors) i d) (p .selectors)) (not inside)) _ _ (answers ok _)
+      (refusing ok ℕ 14 fourteen))
 
   endpoints : (p : Plane) (n i : ℕ) (is : List ℕ) → Refuses ok (endpointIndices p n i is)
   unfolding endpointIndices

@@ -1,5 +1,5 @@
 -- Every opening ends with an answer or with one of the refusals 1 to 9, and leaves the lent buffers as document 01 says.
-use Prim.Native.Nat.{ℕ, _+_, _*_, _-_, _≤_, _<_}
+use Prim.Native.Nat.{ℕ, _+_, _*_, _-_, _≤_}
 use mathlib.Core.Bool.{Bool, true, false, false≢true}
 use mathlib.Core.List.{List, _++_}
 use mathlib.Core.Path.{_≡_, refl, sym, ap, _∙_}
@@ -16,9 +16,9 @@ use Rattle.crn_format.specs.Opening.{Palettes, Lengths, Opening, opened, shut, 
 use Rattle.crn_format.specs.declared.Part.{Part}
 use Rattle.crn_format.specs.declared.Header.{Header}
 use Rattle.crn_level.proofs.Limits.{both-hold}
-use Rattle.crn_laws_total.specs.Refusals.{among, beforeStreams, inStreams, openingRefusals}
+use Rattle.crn_laws_total.specs.Refusals.{among, beforeStreams, inStreams}
 use Rattle.crn_laws_total.specs.Leaves.{Zeroed, Beyond}
-use Rattle.crn_laws_total.specs.Ends.{AllZeroed, Shut, Plane, Open, OpeningEnds}
+use Rattle.crn_laws_total.specs.Ends.{Shut, OpeningEnds}
 use Rattle.crn_laws_total.proofs.Numbers.{among-first, among-second, none-in-both}
 use Rattle.crn_laws_total.proofs.Refusing.{Refuses, Stops, bits-stop}
 use Rattle.crn_laws_total.proofs.OpeningReadings.{tables-refuse, color-endpoints, color-selectors, alpha-endpoints, alpha-selectors}
@@ -98,8 +98,10 @@ plane-room ends a b e there = both-hold a b (sym (ap (λ (t : Bool). pick t (bot
 
 -- the lent buffers are long enough, for each plane
 module _ (h : Header) (lent : Palettes) (room : roomFor h lent ≡ true) where
-  planes-room : (ofPlane (h .«color_endpoints») (leb (h .«color_endpoints» .count) (length (lent .colorEnds))) (leb (h .«color_selectors» .count) (length (lent .colorSels))) ≡ true)
-      × (ofPlane (h .«alpha_endpoints») (leb (h .«alpha_endpoints» .count) (length (lent .alphaEnds))) (leb (3 * h .«alpha_selectors» .count) (length (lent .alphaSels))) ≡ true)
+  planes-room : (ofPlane (h .«color_endpoints») (leb (h .«color_endpoints» .count) (length (lent .colorEnds)))
+      (leb (h .«color_selectors» .count) (length (lent .colorSels))) ≡ true)
+      × (ofPlane (h .«alpha_endpoints») (leb (h .«alpha_endpoints» .count) (length (lent .alphaEnds)))
+      (leb (3 * h .«alpha_selectors» .count) (length (lent .alphaSels))) ≡ true)
   unfolding roomFor
   planes-room = both-hold _ _ room
 
@@ -132,16 +134,20 @@ module _ (file : List ℕ) (lent : Palettes) (h : Header) where
     palettes-end : OpeningEnds lent (after-tables t)
     palettes-end =
         palette lent file (present (h .«color_endpoints»)) (h .«color_endpoints») colorEndpoints (h .«color_endpoints» .count) (lent .colorEnds) (after-one t)
-        (color-endpoints ok refl (h .«color_endpoints» .count)) (color-endpoints-long (h .«color_endpoints» .count)) (λ there. leb-true _ _ (color-room h lent room there .0))
+        (color-endpoints ok refl (h .«color_endpoints» .count)) (color-endpoints-long (h .«color_endpoints» .count))
+        (λ there. leb-true _ _ (color-room h lent room there .0))
         (λ ce ce-on ce-off.
         palette lent file (present (h .«color_endpoints»)) (h .«color_selectors») colorSelectors (h .«color_selectors» .count) (lent .colorSels) (after-two t ce)
-        (color-selectors ok refl (h .«color_selectors» .count) refl) (color-selectors-long (h .«color_selectors» .count)) (λ there. leb-true _ _ (color-room h lent room there .1))
+        (color-selectors ok refl (h .«color_selectors» .count) refl) (color-selectors-long (h .«color_selectors» .count))
+        (λ there. leb-true _ _ (color-room h lent room there .1))
         (λ cs cs-on cs-off.
         palette lent file (present (h .«alpha_endpoints»)) (h .«alpha_endpoints») alphaEndpoints (h .«alpha_endpoints» .count) (lent .alphaEnds) (after-three t ce cs)
-        (alpha-endpoints ok refl (h .«alpha_endpoints» .count)) (alpha-endpoints-long (h .«alpha_endpoints» .count)) (λ there. leb-true _ _ (alpha-room h lent room there .0))
+        (alpha-endpoints ok refl (h .«alpha_endpoints» .count)) (alpha-endpoints-long (h .«alpha_endpoints» .count))
+        (λ there. leb-true _ _ (alpha-room h lent room there .0))
         (λ ae ae-on ae-off.
         palette lent file (present (h .«alpha_endpoints»)) (h .«alpha_selectors») alphaSelectors (3 * h .«alpha_selectors» .count) (lent .alphaSels) (after-four t ce cs ae)
-        (alpha-selectors ok refl (h .«alpha_selectors» .count) refl) (alpha-selectors-long (h .«alpha_selectors» .count)) (λ there. leb-true _ _ (alpha-room h lent room there .1))
+        (alpha-selectors ok refl (h .«alpha_selectors» .count) refl) (alpha-selectors-long (h .«alpha_selectors» .count))
+        (λ there. leb-true _ _ (alpha-room h lent room there .1))
         (λ al al-on al-off. record {
           color = record { first = ce-on; second = cs-on; unread = λ f. (ce-off f, cs-off f) };
           alpha = record { first = ae-on; second = al-on; unread = λ f. (ae-off f, al-off f) };
@@ -165,7 +171,12 @@ opening-ends file lent =
     h = headerOf file
 
     by : (a b c d e : Bool) → roomFor h lent ≡ e
-        → OpeningEnds lent (pick a (pick b (pick c (pick d (pick e (streams file lent h) (shut 5 0 lent)) (shut 4 0 lent)) (shut 3 0 lent)) (shut 2 0 lent)) (shut 1 0 lent))
+        → OpeningEnds lent
+        (pick a
+        (pick b
+        (pick c (pick d (pick e (streams file lent h) (shut 5 0 lent)) (shut 4 0 lent)) (shut 3 0 lent))
+        (shut 2 0 lent))
+        (shut 1 0 lent))
     by false b c d e is = early lent 1 refl
     by true false c d e is = early lent 2 refl
     by true true false d e is = early lent 3 refl

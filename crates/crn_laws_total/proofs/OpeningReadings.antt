@@ -5,7 +5,7 @@ use mathlib.Core.List.{List, [], _∷_, _++_}
 use mathlib.Core.Path.{_≡_}
 use lib.ListN.{length, replicate, set}
 use lib.Dec.{eqb, ltb, leb}
-use Rattle.crn_format.specs.Choice.{pick, either}
+use Rattle.crn_format.specs.Choice.{either}
 use Rattle.crn_format.specs.Limits.{maxLength, maxSymbols}
 use Rattle.crn_format.specs.Codes.{isCode}
 use Rattle.crn_format.specs.Reading.{Reading, next}

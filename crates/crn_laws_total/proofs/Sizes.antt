@@ -1,6 +1,5 @@
 -- Where a level is read through, each block of its grid has a block's bytes.
-use Prim.Native.Nat.{ℕ, _+_, _*_, _/_, _%_, _<_}
-use mathlib.Core.Bool.{Bool}
+use Prim.Native.Nat.{ℕ, _*_, _/_, _<_}
 use mathlib.Core.List.{List, []}
 use mathlib.Core.Path.{_≡_, refl, sym, ap, _∙_, subst}
 use native.Mathlib.Omega.{arith}
@@ -8,14 +7,14 @@ use lib.ListN.{length, length-replicate}
 use Rattle.crn_format.specs.Reading.{answer, Step, got, refused, then, Source, run}
 use Rattle.crn_format.specs.Header.{Kind, DXT1, DXT5, DXT5A, DXN, unknown, blockBytes}
 use Rattle.crn_format.specs.Level.{Plane, Running, Chunk, chunks, level, fresh}
-use Rattle.crn_format.specs.Grid.{Shade, chunkCount, inside, insides, positionOf, blockOf, blockAt}
+use Rattle.crn_format.specs.Grid.{Shade, chunkCount, inside, insides, positionOf, blockAt}
 use Rattle.crn_format.specs.Grid as grid
 use Rattle.crn_format.specs.Unpacking.{perPlane}
 use Rattle.crn_format.specs.declared.Grid.{Grid}
 use Rattle.crn_format.proofs.Steps.{run-next, answered}
 use Rattle.crn_blocks.specs.Sheet.{In}
 use Rattle.crn_blocks.proofs.Turns.{chunk-below}
-use Rattle.crn_unpacker.specs.States.{stateTo, chunkTo, chunksTo}
+use Rattle.crn_unpacker.specs.States.{stateTo, chunksTo}
 use Rattle.crn_unpacker.proofs.States.{chunks-run, chunk-at}
 use Rattle.crn_unpacker.proofs.Shapes.{Sized, Shaped, chunk-shaped, block-long}
 

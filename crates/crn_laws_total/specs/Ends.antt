@@ -12,7 +12,6 @@ use Rattle.crn_format.specs.Opening.{Palettes, Opening, opened, shut, present}
 use Rattle.crn_format.specs.Level.{Chunk}
 use Rattle.crn_format.specs.Grid.{blockAt}
 use Rattle.crn_format.specs.Unpacking.{Unpacking, unpacked, declined, shadesOf, levelReading, levelSegment, gridOf}
-use Rattle.crn_format.specs.declared.Part.{Part}
 use Rattle.crn_format.specs.declared.Header.{Header}
 use Rattle.crn_format.specs.declared.Record.{Record}
 use Rattle.crn_format.specs.declared.Grid.{Grid}

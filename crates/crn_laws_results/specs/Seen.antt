@@ -1,0 +1,41 @@
+-- What is compared of answers of which a contract leaves a part open on purpose: the bits that a cursor has at hand, how a decoder table is laid
+-- out, and what a refused level has left in the grid's blocks.
+use Prim.Native.Nat.{ℕ}
+use mathlib.Core.Bool.{Bool}
+use mathlib.Core.List.{List}
+use Rattle.crn_format.specs.Reading.{Step, got, Spending}
+use Rattle.crn_format.specs.Level.{Running}
+use Rattle.crn_format.specs.Grid.{painted, blank}
+use Rattle.crn_format.specs.declared.Table.{Table}
+use Rattle.crn_format.specs.declared.Grid.{Grid}
+use Rattle.crn_symbol_codec.specs.Cursors.{place}
+use Rattle.crn_symbol_codec.specs.Decoders.{Decodes}
+use Rattle.crn_static_huffman_data_model.specs.declared.Received.{Received}
+use Rattle.crn_chunks.specs.Meaning.{spending, stopped, runningOf}
+use Rattle.crn_unpacker.specs.declared.Went.{Went}
+use Rattle.crn_unpacker.specs.declared.Went.the-variants.{On, Stopped}
+
+-- a decoder table that is some code's
+pub record OfCode (lookup sorted : List ℕ) : Type 0 where
+  pub lengths : List ℕ
+  pub decodes : Decodes lengths lookup sorted
+
+-- of a code table that was received: the refusal, the bit that it names or else the next place, the table, and the cursor's place
+pub record ReceivedSeen : Type 0 where
+  pub refusal : ℕ
+  pub at : ℕ
+  pub table : Table
+  pub place : ℕ
+
+abbrev pub receivedSeen : Received → ReceivedSeen
+receivedSeen r = record { refusal = r .refusal; at = r .at; table = r .table; place = place (r .cursor) }
+
+-- of a level's chunks: what is carried on from the last, with the place after it and the budget that is left; or the refusal
+abbrev pub went : Bool → Went → Step Spending Running
+went two (On r t) = got (runningOf two r) (spending t)
+went two (Stopped x) = stopped x
+
+-- of the destination: all of it; or, after a refusal, all of it once the grid is cleared
+abbrev pub left : Grid → Went → List ℕ → List ℕ
+left g (On r t) e = e
+left g (Stopped x) e = painted g (blank g) (g .faces) e
