@@ -1,4 +1,4 @@
--- The functions that the benchmarks call.
+-- The functions of `crunch_bench`.
 use Prim.Native.Nat.{ℕ}
 use mathlib.Core.Path.{sym, ap, _∙_}
 use mathlib.Core.List.{List}
@@ -7,16 +7,12 @@ use Rattle.crn_format.specs.Opening.{Palettes}
 use Rattle.crn_formats.specs.Lent.{lentOf}
 use Rattle.crn_opening.specs.declared.opening.Opened.{Opened}
 use Rattle.crn_level.specs.declared.Unpacked.{Unpacked}
-use Rattle.draw_bench.proofs.sum_of_draws.Reads as sum-of-draws
 use Rattle.crunch_bench.specs.declared.levels.Answer.{Answer}
 use Rattle.crunch_bench.specs.Flat.{flatOf}
 use Rattle.crunch_bench.proofs.open_file.Reads as open-file
 use Rattle.crunch_bench.proofs.unpack_file_level.Reads as unpack-file-level
-use Rattle.crn_laws_results.specs.Settled.{Settled, theAnswer, alike, alike₂}
+use Rattle.crn_laws_results.specs.Settled.{Settled, alike₂}
 use Rattle.crn_laws_results.proofs.Entry.{unpacks-settled}
-
-pub sum-of-draws-settled : Settled sum-of-draws.Post theAnswer
-sum-of-draws-settled _ _ _ _ _ _ _ p q = alike p q
 
 pub open-file-settled : Settled {X = Opened × Palettes} open-file.Post (λ a r (file, (ce, (cs, (ae, (al, _))))). (r, lentOf (now ce) (now cs) (now ae) (now al)))
 open-file-settled _ _ _ _ _ _ _ p q = alike₂ (p .answer) (q .answer) (p .leaves) (q .leaves)

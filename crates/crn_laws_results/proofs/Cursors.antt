@@ -17,10 +17,10 @@ use Rattle.crn_symbol_codec.proofs.refill.Reads as refill
 use Rattle.crn_symbol_codec.proofs.number.Reads as number
 use Rattle.crn_symbol_codec.proofs.draw_ready.Reads as draw-ready
 use Rattle.crn_symbol_codec.proofs.draw.Reads as draw
+use Rattle.crn_static_huffman_data_model.specs.Parts.{SomeCode}
 use Rattle.crn_static_huffman_data_model.proofs.ready.Reads as ready
 use Rattle.crn_static_huffman_data_model.proofs.draw.Reads as model-draw
 use Rattle.crn_laws_results.specs.Settled.{Settled, SettledIf, alike}
-use Rattle.crn_laws_results.specs.Seen.{OfCode}
 use Rattle.crn_laws_results.proofs.Steps.{got-tells, refused-tells, got-or-refused}
 
 -- ---- a cursor's place
@@ -50,11 +50,11 @@ number-settled _ _ _ _ _ _ _ p q = takes-settled p q
 
 -- ---- a draw, from a table that is some code's
 
-pub draw-ready-settled : SettledIf (λ (lookup, (sorted, _)) r. OfCode (now lookup) (now sorted)) draw-ready.Post (λ a r e. drew r)
-draw-ready-settled _ _ _ _ _ _ _ h _ p q = takes-settled (p .0 (h .lengths) (h .decodes)) (q .0 (h .lengths) (h .decodes))
+pub draw-ready-settled : SettledIf (λ (lookup, (sorted, _)) r. SomeCode (now lookup) (now sorted)) draw-ready.Post (λ a r e. drew r)
+draw-ready-settled _ _ _ _ _ _ _ h _ p q = takes-settled (p .0 (h .code) (h .decodes)) (q .0 (h .code) (h .decodes))
 
-pub draw-settled : SettledIf (λ (lookup, (sorted, _)) r. OfCode (now lookup) (now sorted)) draw.Post (λ a r e. drew r)
-draw-settled _ _ _ _ _ _ _ h _ p q = takes-settled (p (h .lengths) (h .decodes)) (q (h .lengths) (h .decodes))
+pub draw-settled : SettledIf (λ (lookup, (sorted, _)) r. SomeCode (now lookup) (now sorted)) draw.Post (λ a r e. drew r)
+draw-settled _ _ _ _ _ _ _ h _ p q = takes-settled (p (h .code) (h .decodes)) (q (h .code) (h .decodes))
 
-pub model-draw-settled : SettledIf (λ (lookup, (sorted, _)) r. OfCode (now lookup) (now sorted)) model-draw.Post (λ a r e. drew r)
-model-draw-settled _ _ _ _ _ _ _ h _ p q = takes-settled (p (h .lengths) (h .decodes)) (q (h .lengths) (h .decodes))
+pub model-draw-settled : SettledIf (λ (lookup, (sorted, _)) r. SomeCode (now lookup) (now sorted)) model-draw.Post (λ a r e. drew r)
+model-draw-settled _ _ _ _ _ _ _ h _ p q = takes-settled (p (h .code) (h .decodes)) (q (h .code) (h .decodes))

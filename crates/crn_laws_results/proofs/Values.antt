@@ -45,6 +45,7 @@ use Rattle.crn_blocks.proofs.clear.Reads as clear
 use Rattle.crn_blocks.proofs.cutouts.Reads as cutouts
 use Rattle.crn_edits.proofs.edited.Reads as edited
 use Rattle.fnv.proofs.step.Reads as step
+use Rattle.draw_bench.proofs.sum_of_draws.Reads as sum-of-draws
 use Rattle.crn_laws_results.specs.Settled.{Settled, theAnswer, alike}
 
 -- ---- crn_utils
@@ -190,10 +191,13 @@ clear-settled _ _ _ _ _ _ _ p q = alike p q
 pub cutouts-settled : Settled cutouts.Post theAnswer
 cutouts-settled _ _ _ _ _ _ _ p q = alike p q
 
--- ---- crn_edits, fnv
+-- ---- crn_edits, fnv, draw_bench
 
 pub edited-settled : Settled edited.Post theAnswer
 edited-settled _ _ _ _ _ _ _ p q = alike p q
 
 pub step-settled : Settled step.Post theAnswer
 step-settled _ _ _ _ _ _ _ p q = alike p q
+
+pub sum-of-draws-settled : Settled sum-of-draws.Post theAnswer
+sum-of-draws-settled _ _ _ _ _ _ _ p q = alike p q

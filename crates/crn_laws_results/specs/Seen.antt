@@ -9,16 +9,10 @@ use Rattle.crn_format.specs.Grid.{painted, blank}
 use Rattle.crn_format.specs.declared.Table.{Table}
 use Rattle.crn_format.specs.declared.Grid.{Grid}
 use Rattle.crn_symbol_codec.specs.Cursors.{place}
-use Rattle.crn_symbol_codec.specs.Decoders.{Decodes}
 use Rattle.crn_static_huffman_data_model.specs.declared.Received.{Received}
 use Rattle.crn_chunks.specs.Meaning.{spending, stopped, runningOf}
 use Rattle.crn_unpacker.specs.declared.Went.{Went}
 use Rattle.crn_unpacker.specs.declared.Went.the-variants.{On, Stopped}
-
--- a decoder table that is some code's
-pub record OfCode (lookup sorted : List ℕ) : Type 0 where
-  pub lengths : List ℕ
-  pub decodes : Decodes lengths lookup sorted
 
 -- of a code table that was received: the refusal, the bit that it names or else the next place, the table, and the cursor's place
 pub record ReceivedSeen : Type 0 where
