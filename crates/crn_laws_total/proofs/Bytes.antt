@@ -1,8 +1,8 @@
 -- A painted destination, byte by byte.
 use Prim.Native.Nat.{ℕ, _-_, _<_}
-use mathlib.Core.Logic.{inl, inr, ⊎-elim}
+use mathlib.Core.Logic.{_⊎_, inl, inr, ⊎-elim}
 use mathlib.Core.List.{List}
-use mathlib.Core.Path.{_≡_, refl, _∙_}
+use mathlib.Core.Path.{_≡_, refl, ap, _∙_}
 use native.Mathlib.Omega.{arith}
 use lib.ListN.{length, getD, length-replicate, getD-replicate}
 use Rattle.crn_format.specs.Grid.{placeOf, painted, blank}
@@ -35,3 +35,10 @@ painted-leaves {g} b room block sized byte is =
 pub blank-leaves : {g : Grid} (b : List ℕ) → Room g (length b) → Leaves g (λ f x y k. 0) b (painted g (blank g) (g .faces) b)
 blank-leaves {g} b room =
     painted-leaves b room (blank g) (λ f x y at. length-replicate (g .bytes) 0) (λ f x y k. 0) (λ f x y k h. getD-replicate (g .bytes) k 0 0 h)
+
+-- each byte by itself: what its block has there, or what it was
+pub each-byte : {g : Grid} {byte : ℕ → ℕ → ℕ → ℕ → ℕ} {b a : List ℕ} → Leaves g byte b a → (i : ℕ)
+    → ((h : InBlock g i) × (getD a i 0 ≡ byte (h .face) (h .column) (h .row) (h .byte))) ⊎ ((InBlock g i → ⊥) × (getD a i 0 ≡ getD b i 0))
+each-byte {a = a} l i =
+    ⊎-elim (λ h. inl (h, ap (λ (j : ℕ). getD a j 0) (h .here) ∙ l .blocks (h .face) (h .column) (h .row) (h .byte) (h .block) (h .small)))
+    (λ out. inr (out, l .others i out)) (l .each i)
