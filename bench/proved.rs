@@ -1,4 +1,4 @@
-// The proved crate's functions and records, as `crunch_bench` exports them.
+// The proved crate's functions and records, as `crunch_abi` exports them.
 #[repr(C)]
 #[derive(Clone, Copy)]
 struct Table {
@@ -30,8 +30,8 @@ struct Answer {
 }
 
 extern "C" {
-    fn open_file(file: *const u8, size: usize, ce: *mut u32, ce_count: usize, cs: *mut u32, cs_count: usize, ae: *mut u16, ae_count: usize, al: *mut u16, al_count: usize) -> Opened;
-    fn unpack_file_level(
+    fn crunch_open(file: *const u8, size: usize, ce: *mut u32, ce_count: usize, cs: *mut u32, cs_count: usize, ae: *mut u16, ae_count: usize, al: *mut u16, al_count: usize) -> Opened;
+    fn crunch_unpack_level(
         record: Record, file: *const u8, size: usize, ce: *const u32, ce_count: usize, cs: *const u32, cs_count: usize, ae: *const u16, ae_count: usize, al: *const u16, al_count: usize, level: u32,
         pitch: usize, distance: usize, budget: *mut u64, dst: *mut u8, dst_size: usize,
     ) -> Answer;
@@ -53,7 +53,7 @@ impl Lent {
 
 fn open(file: &[u8], l: &mut Lent) -> Opened {
     unsafe {
-        open_file(file.as_ptr(), file.len(), l.ce.as_mut_ptr(), l.ce.len(), l.cs.as_mut_ptr(), l.cs.len(), l.ae.as_mut_ptr(), l.ae.len(), l.al.as_mut_ptr(), l.al.len())
+        crunch_open(file.as_ptr(), file.len(), l.ce.as_mut_ptr(), l.ce.len(), l.cs.as_mut_ptr(), l.cs.len(), l.ae.as_mut_ptr(), l.ae.len(), l.al.as_mut_ptr(), l.al.len())
     }
 }
 
@@ -61,7 +61,7 @@ fn open(file: &[u8], l: &mut Lent) -> Opened {
 fn unpack(p: &Opened, file: &[u8], l: &Lent, level: usize, pitch: usize, distance: usize, dst: &mut [u8]) -> Answer {
     let mut budget = u64::MAX;
     unsafe {
-        unpack_file_level(
+        crunch_unpack_level(
             p.file, file.as_ptr(), file.len(), l.ce.as_ptr(), l.ce.len(), l.cs.as_ptr(), l.cs.len(), l.ae.as_ptr(), l.ae.len(), l.al.as_ptr(), l.al.len(), level as u32, pitch, distance,
             &mut budget, dst.as_mut_ptr(), dst.len(),
         )

@@ -1,17 +1,33 @@
-// Opening and unpacking, for the benchmarks in bench/.
+// The entry for C and Rust: what `rt staticlib` hands out. No function asks anything of its caller; an answer is a number or a flat struct by value.
+ghost use mathlib.Core.Path.{_≡_};
 ghost use Rattle.crn_format.specs.Opening.{opening as «openingOf»};
 ghost use Rattle.crn_formats.specs.Lent.{lentOf};
+ghost use Rattle.crn_decomp.specs.Look.{lookOf};
 ghost use Rattle.crn_opening.specs.Opens.{Opens};
+use crn_decomp::Looked;
 use crunch::Opened;
 
-mod levels;
+mod level; // a level unpacked
+mod sizes; // the sizes of a host's buffers
 
-pub use levels::Answer;
-pub use levels::unpack_file_level;
+pub use level::Answer;
+pub use level::crunch_unpack_level;
+pub use sizes::LevelSizes;
+pub use sizes::PaletteWords;
+pub use sizes::crunch_level_sizes;
+pub use sizes::crunch_palette_words;
 
-// A file opened with four lent buffers. The record is handed out whole, so that no part of the work can be left out.
+// The header of a file, by which a host sizes the palettes' buffers: refusal 1, 2 or 3 of opening, or 0.
 #[no_mangle]
-pub extern "C" fn open_file(
+pub extern "C" fn crunch_look(file: &[u8]) -> Looked
+    ensures { λ r. ⌜ r ≡ lookOf (now (file .entry)) ⌝ }
+{
+    crn_decomp::look(file)
+}
+
+// A file opened with four lent buffers.
+#[no_mangle]
+pub extern "C" fn crunch_open(
     file: &[u8],
     color_endpoints: &mut [u32],
     color_selectors: &mut [u32],

@@ -1,26 +1,27 @@
-// A level unpacked, for the benchmarks.
+// A level unpacked, its answer as one struct.
 ghost use mathlib.Core.Path.{_≡_};
 ghost use Rattle.crn_format.specs.Unpacking.{unpacking as «unpackingOf»};
 ghost use Rattle.crn_formats.specs.Lent.{lentOf};
-ghost use Rattle.crunch_bench.specs.Flat.{flatOf, Flat};
+ghost use Rattle.crunch_abi.specs.Answers.{answerOf, Answers};
 use crn_format::Record;
 use crn_level::Unpacked;
 
-// An answer as one struct: refusal 0 with the symbols and the cut-outs; or the refusal, the bit that it names and the symbols.
+// Refusal 0 with the symbols drawn and the cut-outs; or the refusal, the bit that it names and the symbols drawn.
 #[repr(C)]
 pub struct Answer {
-    pub number: u32,
+    pub refusal: u32,
     pub at: usize,
     pub symbols: u64,
     pub cutouts: u64,
 }
 
+// An answer as one struct: an enum is nothing that a host of another language could take apart.
 fn flat(u: Unpacked) -> Answer
-    ensures { λ r. ⌜ r ≡ flatOf u ⌝ }
+    ensures { λ r. ⌜ r ≡ answerOf u ⌝ }
 {
     match u {
         Unpacked::Blocks { symbols, cutouts } => Answer {
-            number: 0,
+            refusal: 0,
             at: 0,
             symbols: symbols,
             cutouts: cutouts,
@@ -30,7 +31,7 @@ fn flat(u: Unpacked) -> Answer
             symbols,
             at,
         } => Answer {
-            number: number,
+            refusal: number,
             at: at,
             symbols: symbols,
             cutouts: 0,
@@ -38,9 +39,9 @@ fn flat(u: Unpacked) -> Answer
     }
 }
 
-// A level unpacked.
+// A level unpacked into a lent destination.
 #[no_mangle]
-pub extern "C" fn unpack_file_level(
+pub extern "C" fn crunch_unpack_level(
     record: Record,
     file: &[u8],
     color_endpoints: &[u32],
@@ -53,7 +54,7 @@ pub extern "C" fn unpack_file_level(
     budget: &mut u64,
     dst: &mut [u8],
 ) -> Answer
-    ensures { λ r. ⌜ Flat («unpackingOf» «record» (now (file .entry)) (lentOf (now («color_endpoints» .entry)) (now («color_selectors» .entry)) (now («alpha_endpoints» .entry)) (now («alpha_selectors» .entry))) level pitch distance (now (budget .entry)) (now (dst .entry))) (now (budget .entry)) (now (budget .exit)) (now (dst .exit)) r ⌝ }
+    ensures { λ r. ⌜ Answers («unpackingOf» «record» (now (file .entry)) (lentOf (now («color_endpoints» .entry)) (now («color_selectors» .entry)) (now («alpha_endpoints» .entry)) (now («alpha_selectors» .entry))) level pitch distance (now (budget .entry)) (now (dst .entry))) (now (budget .entry)) (now (budget .exit)) (now (dst .exit)) r ⌝ }
 {
     flat(crunch::unpack_level(
         record,

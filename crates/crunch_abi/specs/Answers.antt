@@ -6,14 +6,14 @@ use Rattle.crn_format.specs.Unpacking.{Unpacking}
 use Rattle.crn_level.specs.Unpacks.{Unpacks}
 use Rattle.crn_level.specs.declared.Unpacked.{Unpacked}
 use Rattle.crn_level.specs.declared.Unpacked.the-variants.{Blocks, Refused}
-use Rattle.crunch_bench.specs.declared.levels.Answer.{Answer}
+use Rattle.crunch_abi.specs.declared.level.Answer.{Answer}
 
-abbrev pub flatOf : Unpacked → Answer
-flatOf (Blocks symbols cutouts) = record { number = 0; at = 0; symbols = symbols; cutouts = cutouts }
-flatOf (Refused number symbols bit) = record { number = number; at = bit; symbols = symbols; cutouts = 0 }
+abbrev pub answerOf : Unpacked → Answer
+answerOf (Blocks symbols cutouts) = record { refusal = 0; at = 0; symbols = symbols; cutouts = cutouts }
+answerOf (Refused number symbols bit) = record { refusal = number; at = bit; symbols = symbols; cutouts = 0 }
 
 -- a is the answer that the definition gives
-pub record Flat (u : Unpacking) (budget left : ℕ) (after : List ℕ) (a : Answer) : Type 0 where
+pub record Answers (u : Unpacking) (budget left : ℕ) (after : List ℕ) (a : Answer) : Type 0 where
   pub told : Unpacked
   pub unpacks : Unpacks u budget left after told
-  pub same : a ≡ flatOf told
+  pub same : a ≡ answerOf told
