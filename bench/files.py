@@ -49,8 +49,8 @@ def fitted_table(rng, symbols):
         counts = {s: (n + 1) // 2 for s, n in counts.items()}
 
 
-def file(rng, fmt, entries, sides, table, index):
-    """A file with a square level of each side, whose palettes have so many entries each."""
+def file(rng, fmt, entries, sides, table, index, faces=1):
+    """A file with a level of each pair of sides, whose palettes have so many entries each."""
     mkcrn.random_table, mkcrn.Index = table, index
     palettes, segments, seen = {name: [] for name in mkcrn.PALETTE_NAMES}, {}, set()
     counts = {k + p: entries for k in 'ca' if k in mkcrn.planes(fmt) for p in 'es'}
@@ -59,7 +59,7 @@ def file(rng, fmt, entries, sides, table, index):
             segments[name], palettes[name] = mkcrn.selectors(rng, entries, seen, 2 if name == 'cs' else 3)
         else:
             segments[name], palettes[name] = (mkcrn.color_endpoints if name == 'ce' else mkcrn.alpha_endpoints)(rng, entries, seen)
-    scripts = [mkcrn.level(rng, fmt, side, side, 1, palettes, 'free', False, False)[0] for side in sides]
+    scripts = [mkcrn.level(rng, fmt, width, height, faces, palettes, 'free', False, False)[0] for width, height in sides]
     drawn = collections.defaultdict(list)
     for script in scripts:
         for name, symbol in script:
@@ -74,19 +74,28 @@ def file(rng, fmt, entries, sides, table, index):
         bits = mkcrn.Bits()
         mkcrn.put_symbols(bits, tables, script)
         segments[name] = bits.done()
-    return mkcrn.assemble(segments, list(counts) + ['tables'] + levels, counts, sides[0], sides[0], len(sides), 1, fmt)
+    return mkcrn.assemble(segments, list(counts) + ['tables'] + levels, counts, *sides[0], len(sides), faces, fmt)
 
 
-def write(name, data):
-    with open(os.path.join(sys.argv[2], name + '.crn'), 'wb') as out:
+def halved(width, height):
+    """The sides of all levels, down to one pixel."""
+    return [(max(1, width >> n), max(1, height >> n)) for n in range(max(width, height).bit_length())]
+
+
+def write(folder, name, data):
+    with open(os.path.join(folder, name + '.crn'), 'wb') as out:
         out.write(data)
 
 
-for kind, fmt in FORMATS:
-    for codes, table in [('fitted', fitted_table), ('any', any_table)]:
-        for entries, side in SIDES.items():
-            for n in range(8):
-                write('%s-%s-%d-%d' % (codes, kind, entries, n), file(random.Random(1000 * entries + 10 * fmt + n), fmt, entries, [side], table, AnyEntry))
-    for side, entries in ENTRIES.items():
-        sides = [side >> n for n in range(side.bit_length())]
-        write('level-%s-%d' % (kind, side), file(random.Random(100 * side + fmt), fmt, entries, sides, fitted_table, NearEntry))
+def main(out):
+    for kind, fmt in FORMATS:
+        for codes, table in [('fitted', fitted_table), ('any', any_table)]:
+            for entries, side in SIDES.items():
+                for n in range(8):
+                    write(out, '%s-%s-%d-%d' % (codes, kind, entries, n), file(random.Random(1000 * entries + 10 * fmt + n), fmt, entries, [(side, side)], table, AnyEntry))
+        for side, entries in ENTRIES.items():
+            write(out, 'level-%s-%d' % (kind, side), file(random.Random(100 * side + fmt), fmt, entries, halved(side, side), fitted_table, NearEntry))
+
+
+if __name__ == '__main__':
+    main(sys.argv[2])

@@ -1,4 +1,4 @@
-// The Rust of texture2ddecoder 0.1.2, unchanged, found by a link `shared` beside this file. The crate's block decoders are not called here.
+// The Rust of texture2ddecoder 0.1.2, unchanged, found by a link `shared` beside this file.
 #[path = "shared/docs/src/src"]
 mod texture2ddecoder {
     pub(crate) mod crnlib;
@@ -6,9 +6,11 @@ mod texture2ddecoder {
     pub(crate) mod macros;
 }
 pub(crate) use texture2ddecoder::{crnlib, crunch, macros};
+// In place of the crate's block decoders: they keep the blocks that they are handed.
 mod bcn {
-    macro_rules! none {
-        ($($n:ident)*) => { $(pub fn $n(_: &[u8], _: usize, _: usize, _: &mut [u32]) -> Result<(), &'static str> { Ok(()) })* };
+    thread_local!(pub static HANDED: std::cell::RefCell<Vec<u8>> = const { std::cell::RefCell::new(Vec::new()) });
+    macro_rules! kept {
+        ($($n:ident)*) => { $(pub fn $n(blocks: &[u8], _: usize, _: usize, _: &mut [u32]) -> Result<(), &'static str> { HANDED.set(blocks.to_vec()); Ok(()) })* };
     }
-    none!(decode_bc1 decode_bc3 decode_bc4 decode_bc5);
+    kept!(decode_bc1 decode_bc3 decode_bc4 decode_bc5);
 }
