@@ -1,0 +1,109 @@
+/* CRN files (crunched DXT textures), opened and unpacked by proved code: link target/host/libcrunch_abi.a, which `rust/archive crunch_abi` makes.
+ *
+ * Every function takes any argument and ends with an answer. Nothing is allocated, and nothing is kept between calls. What C itself asks of a caller stays to be met:
+ * a pointer points to as many elements as the length beside it says (a length may be 0), and no buffer that is written overlaps another.
+ *
+ * A refusal is 0, or a number:
+ *
+ *    1  under 74 bytes, or no signature           8  a segment that ended too soon
+ *    2  a header field beyond its limit           9  a selector symbol of a palette
+ *    3  header size or data size                 10  a level number
+ *    4  a segment empty, backwards or past       11  pitch or distance
+ *       the file                                 12  a destination that is too short
+ *    5  a lent palette that is too short         13  a chunk symbol
+ *    6  a code table                             14  a palette index
+ *    7  bits that begin no code                  15  a budget that is already spent
+ */
+#ifndef CRUNCH_H
+#define CRUNCH_H
+
+#include <stddef.h>
+#include <stdint.h>
+
+#ifdef __cplusplus
+extern "C" {
+#endif
+
+/* Where a part of the file stands, and how many palette entries it has. */
+struct crunch_part {
+    uint32_t offset, size, count;
+};
+
+/* The header's fields as read. A level that the file does not have is at offset 0. */
+struct crunch_header {
+    uint32_t header_size, header_crc16, data_size, data_crc16;
+    uint32_t width, height, levels, faces;
+    uint32_t format; /* 0 DXT1; 2 to 6 DXT5 and its swizzles; 7, 8 DXN; 9 DXT5A */
+    uint32_t flags, reserved, userdata0, userdata1;
+    struct crunch_part color_endpoints, color_selectors, alpha_endpoints, alpha_selectors;
+    uint32_t tables_size, tables_offset;
+    uint32_t level_offsets[13];
+};
+
+/* A code table: how many symbols it was sent for, and each symbol's code length, zero beyond the count. */
+struct crunch_table {
+    uint32_t count;
+    uint8_t lengths[8192];
+};
+
+/* An opened file, without its palettes: some 41,000 bytes. */
+struct crunch_record {
+    struct crunch_header header;
+    struct {
+        struct crunch_table chunk_encoding, color_endpoint_delta, color_selector_delta, alpha_endpoint_delta, alpha_selector_delta;
+    } tables;
+};
+
+/* The header of a file, by which the palettes' buffers are sized: refusal 1, 2 or 3 with zeros, or 0. */
+struct crunch_looked {
+    uint32_t refusal;
+    struct crunch_header header;
+};
+struct crunch_looked crunch_look(const uint8_t *file, size_t file_len);
+
+/* How many words the buffer of each palette has to hold. */
+struct crunch_palette_words {
+    size_t color_endpoints, color_selectors, alpha_endpoints, alpha_selectors;
+};
+struct crunch_palette_words crunch_palette_words(struct crunch_header header);
+
+/* A file opened: refusal 0 with its record; or the refusal and the bit at which the compressed data are at fault, with an empty record. Refused by 1 to 5 it leaves the
+ * buffers untouched, refused later it leaves them zero. */
+struct crunch_opened {
+    uint32_t refusal;
+    size_t at;
+    struct crunch_record file;
+};
+struct crunch_opened crunch_open(
+    const uint8_t *file, size_t file_len,
+    uint32_t *color_endpoints, size_t color_endpoints_len, uint32_t *color_selectors, size_t color_selectors_len,
+    uint16_t *alpha_endpoints, size_t alpha_endpoints_len, uint16_t *alpha_selectors, size_t alpha_selectors_len);
+
+/* A level's blocks; the least pitch, distance and destination for them, in bytes; and the full symbol allowance, with which no level runs out. Refusal 2 (a header
+ * beyond its limits) and 10 (a level that the file does not have) come with zeros. */
+struct crunch_level_sizes {
+    uint32_t refusal;
+    size_t columns, rows, block_bytes, pitch, distance, bytes;
+    uint64_t symbols;
+};
+struct crunch_level_sizes crunch_level_sizes(struct crunch_header header, uint32_t level);
+
+/* A level of every face unpacked into dst: face f starts at f times the distance, rows of blocks are a pitch apart. Refusal 0 with the symbols drawn and the cut-outs
+ * (DXT1 blocks whose first colour word is below the second); or the refusal, the bit and the symbols drawn. Each symbol drawn is taken off the budget. Bytes that
+ * belong to no block stay as they were; refused before its first symbol the level leaves dst untouched, refused later it leaves its blocks zero. */
+struct crunch_answer {
+    uint32_t refusal;
+    size_t at;
+    uint64_t symbols, cutouts;
+};
+struct crunch_answer crunch_unpack_level(
+    struct crunch_record record, const uint8_t *file, size_t file_len,
+    const uint32_t *color_endpoints, size_t color_endpoints_len, const uint32_t *color_selectors, size_t color_selectors_len,
+    const uint16_t *alpha_endpoints, size_t alpha_endpoints_len, const uint16_t *alpha_selectors, size_t alpha_selectors_len,
+    uint32_t level, size_t pitch, size_t distance, uint64_t *budget, uint8_t *dst, size_t dst_len);
+
+#ifdef __cplusplus
+}
+#endif
+
+#endif

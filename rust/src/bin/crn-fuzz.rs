@@ -1,0 +1,302 @@
+//! `crn-fuzz [--seed S] (--rounds N | MINUTES) FILE..`: damaged files and wild arguments for the package's functions, with guards around every buffer. What a call may
+//! answer and leave is held to the promises: see `opened` and `unpacked`. It ends at the first broken one, with the seed of the round that broke it.
+use crunch_proved::raw::{self, Palettes, PalettesMut, Record};
+use crunch_proved::Crn;
+use std::time::{Duration, Instant};
+
+/// Marsaglia's xorshift, of 64 bits.
+struct Dice(u64);
+
+impl Dice {
+    fn new(seed: u64) -> Dice {
+        let mut dice = Dice(seed.wrapping_mul(0x9E37_79B9_7F4A_7C15) | 1);
+        (0..8).for_each(|_| _ = dice.next());
+        dice
+    }
+
+    fn next(&mut self) -> u64 {
+        self.0 ^= self.0 << 13;
+        self.0 ^= self.0 >> 7;
+        self.0 ^= self.0 << 17;
+        self.0
+    }
+
+    fn below(&mut self, n: usize) -> usize {
+        (self.next() >> 11) as usize % n.max(1)
+    }
+
+    fn one_in(&mut self, n: usize) -> bool {
+        self.below(n) == 0
+    }
+
+    /// A number near n, or any.
+    fn wild(&mut self, n: u64) -> u64 {
+        match self.below(8) {
+            0 => 0,
+            1 => n.wrapping_sub(1),
+            2 => n + 1,
+            3 => n + 4,
+            4 => self.next(),
+            5 => self.next() >> self.below(64),
+            6 => u64::MAX,
+            _ => n,
+        }
+    }
+}
+
+/// A buffer between two guards.
+struct Guarded<T> {
+    all: Vec<T>,
+    len: usize,
+}
+
+const GUARD: usize = 64;
+
+impl<T: Copy + PartialEq + From<u8>> Guarded<T> {
+    fn new(len: usize, dice: &mut Dice) -> Guarded<T> {
+        let mut all = vec![T::from(0xA5); len + 2 * GUARD];
+        all[GUARD..GUARD + len].iter_mut().for_each(|x| *x = T::from(dice.next() as u8 | 1));
+        Guarded { all, len }
+    }
+
+    fn lent(&mut self) -> &mut [T] {
+        &mut self.all[GUARD..GUARD + self.len]
+    }
+
+    fn held(&self) -> &[T] {
+        &self.all[GUARD..GUARD + self.len]
+    }
+
+    fn check(&self, what: &str) {
+        let guard = T::from(0xA5);
+        let whole = self.all[..GUARD].iter().chain(&self.all[GUARD + self.len..]).all(|x| *x == guard);
+        assert!(whole, "a byte beside {what} was written");
+    }
+}
+
+/// The four palettes' buffers.
+struct Lent {
+    ce: Guarded<u32>,
+    cs: Guarded<u32>,
+    ae: Guarded<u16>,
+    al: Guarded<u16>,
+}
+
+impl Lent {
+    fn read(&self) -> Palettes<'_> {
+        Palettes { color_endpoints: self.ce.held(), color_selectors: self.cs.held(), alpha_endpoints: self.ae.held(), alpha_selectors: self.al.held() }
+    }
+
+    /// Each word, of 32 bits, of the four buffers.
+    fn words(&self) -> [Vec<u32>; 4] {
+        let wide = |b: &[u16]| b.iter().map(|w| *w as u32).collect();
+        [self.ce.held().to_vec(), self.cs.held().to_vec(), wide(self.ae.held()), wide(self.al.held())]
+    }
+
+    fn check(&self) {
+        self.ce.check("the colour endpoints");
+        self.cs.check("the colour selectors");
+        self.ae.check("the alpha endpoints");
+        self.al.check("the alpha selectors");
+    }
+}
+
+/// How often each answer came, by its number.
+#[derive(Default)]
+struct Tally {
+    opened: [u64; 16],
+    unpacked: [u64; 16],
+}
+
+fn damaged(file: &[u8], dice: &mut Dice) -> Vec<u8> {
+    let mut out = file.to_vec();
+    match dice.below(6) {
+        0 => return out,
+        1 => out.truncate(dice.below(file.len() + 1)),
+        2 => (0..dice.below(9)).for_each(|_| out.push(dice.next() as u8)),
+        _ => {}
+    }
+    for _ in 0..dice.below(4) {
+        // the header's fields and the heads of the segments are hit more often than the rest
+        let reach = [out.len(), 74, 200][dice.below(3)].min(out.len());
+        if reach > 0 {
+            let at = dice.below(reach);
+            out[at] = [out[at] ^ 1 << dice.below(8), dice.next() as u8, 0, 0xFF][dice.below(4)];
+        }
+    }
+    out
+}
+
+/// A file opened. Refused by 1 to 5 it leaves the buffers untouched, by 6 to 9 zero; accepted, it leaves what lies beyond each palette untouched.
+fn opened(file: &[u8], near: bool, dice: &mut Dice, tally: &mut Tally) -> (raw::Opened, Lent) {
+    let looked = raw::look(file);
+    let words = raw::palette_words(&looked.header);
+    let mut len = |n: usize| if near { (dice.wild(n as u64) as usize).min(30_000) } else { n };
+    let lens = [len(words.color_endpoints), len(words.color_selectors), len(words.alpha_endpoints), len(words.alpha_selectors)];
+    let mut lent = Lent { ce: Guarded::new(lens[0], dice), cs: Guarded::new(lens[1], dice), ae: Guarded::new(lens[2], dice), al: Guarded::new(lens[3], dice) };
+    let before = lent.words();
+    let o = raw::open(
+        file,
+        &mut PalettesMut { color_endpoints: lent.ce.lent(), color_selectors: lent.cs.lent(), alpha_endpoints: lent.ae.lent(), alpha_selectors: lent.al.lent() },
+    );
+    lent.check();
+    let after = lent.words();
+    tally.opened[o.refusal as usize] += 1;
+    assert!(matches!(o.refusal, 0..=9), "opening gave {}", o.refusal);
+    assert_eq!(looked.refusal, if o.refusal <= 3 { o.refusal } else { 0 }, "look and open part ways");
+    match o.refusal {
+        0 => {
+            let ends = [words.color_endpoints, words.color_selectors, words.alpha_endpoints, words.alpha_selectors];
+            assert_eq!(o.file.header, looked.header);
+            assert!((0..4).all(|p| after[p][ends[p]..] == before[p][ends[p]..]), "a word beyond a palette was written");
+        }
+        1..=5 => assert_eq!(before, after, "refused by {}, and a palette was written", o.refusal),
+        _ => assert!(after.iter().flatten().all(|w| *w == 0), "refused by {}, and a palette is not zero", o.refusal),
+    }
+    assert!(near || o.refusal != 5, "palettes of the words that were told are too short");
+    (o, lent)
+}
+
+/// A level unpacked. Its symbols are taken off the budget. Refused before its first draw it leaves the destination untouched, refused later it leaves its blocks zero;
+/// bytes that belong to no block stay. What it gives does not hang on pitch, distance or what the destination held.
+fn unpacked(record: &Record, file: &[u8], lent: &Lent, dice: &mut Dice, tally: &mut Tally) {
+    let there = dice.below(record.header.levels.min(13) as usize) as u64;
+    let level = if dice.one_in(6) { dice.wild(there) as u32 } else { there as u32 };
+    let sizes = raw::level_sizes(&record.header, level);
+    let faces = record.header.faces as usize;
+    let apart = |tight: usize, dice: &mut Dice| match dice.below(4) {
+        0 => tight + 4 * dice.below(20),
+        1 => dice.wild(tight as u64) as usize,
+        _ => tight,
+    };
+    let pitch = apart(sizes.pitch, dice);
+    let distance = apart(sizes.rows.wrapping_mul(pitch), dice);
+    let reach = (faces as u128).saturating_sub(1) * distance as u128 + (sizes.rows as u128).saturating_sub(1) * pitch as u128 + sizes.pitch as u128;
+    let reach = reach.min(200_000) as usize;
+    let len = if dice.one_in(4) { (dice.wild(reach as u64) as usize).min(200_000) } else { reach };
+    let given = if dice.one_in(4) { dice.wild(sizes.symbols) } else { sizes.symbols };
+    let (mut dst, mut budget) = (Guarded::<u8>::new(len, dice), given);
+    let before = dst.held().to_vec();
+    let answer = raw::unpack_level(record, file, &lent.read(), level, pitch, distance, &mut budget, dst.lent());
+    dst.check("the destination");
+    lent.check();
+    tally.unpacked[answer.refusal as usize] += 1;
+    let after = dst.held();
+    assert!(matches!(answer.refusal, 0 | 2 | 4..=8 | 10..=15), "a level gave {}", answer.refusal);
+    assert_eq!(given - budget, answer.symbols, "the budget was not counted down by the symbols");
+    assert!(answer.refusal != 15 || given < sizes.symbols, "the full allowance was too little");
+    // 6 comes between 2 and 10
+    assert_eq!(answer.refusal == 2, sizes.refusal == 2, "a level and its sizes part ways");
+    assert_eq!(answer.refusal == 10, sizes.refusal == 10 && answer.refusal != 6, "a level and its sizes part ways");
+    if matches!(answer.refusal, 2 | 4 | 5 | 6 | 10 | 11 | 12) {
+        assert!(before == after && answer.symbols == 0 && answer.at == 0, "refused by {} before the first draw, and something was done", answer.refusal);
+        return;
+    }
+    // all that a block does not cover is as before
+    let mut covered = vec![false; len];
+    let row = sizes.columns * sizes.block_bytes;
+    let rows: Vec<usize> = (0..faces).flat_map(|f| (0..sizes.rows).map(move |y| f * distance + y * pitch)).collect();
+    rows.iter().for_each(|at| covered[*at..at + row].fill(true));
+    assert!((0..len).all(|i| covered[i] || before[i] == after[i]), "a byte outside the blocks was written");
+    if answer.refusal != 0 {
+        assert!(answer.cutouts == 0 && (0..len).all(|i| !covered[i] || after[i] == 0), "refused by {}, and a block is not zero", answer.refusal);
+        return;
+    }
+    let blocks: Vec<u8> = rows.iter().flat_map(|at| after[*at..at + row].to_vec()).collect();
+    let word = |b: &[u8], i: usize| b[i] as u32 + 256 * b[i + 1] as u32;
+    let cutouts = if record.header.format == 0 { blocks.chunks(8).filter(|b| word(b, 0) < word(b, 2)).count() as u64 } else { 0 };
+    assert_eq!(answer.cutouts, cutouts, "the cut-outs are miscounted");
+    // once more, close together, with what the first call took: the same; with one symbol less: refused
+    for (less, refusal) in [(0, 0), (1, 15)] {
+        let (mut again, mut budget) = (Guarded::<u8>::new(sizes.bytes, dice), answer.symbols - less);
+        let second = raw::unpack_level(record, file, &lent.read(), level, sizes.pitch, sizes.distance, &mut budget, again.lent());
+        again.check("the destination");
+        assert_eq!((second.refusal, budget), (refusal, 0));
+        assert!(refusal != 0 || again.held() == blocks, "another call gave other blocks");
+    }
+}
+
+/// A record that nobody's file gave.
+fn edited(record: &mut Record, dice: &mut Dice) {
+    let h = &mut record.header;
+    for _ in 0..1 + dice.below(3) {
+        let fields = [&mut h.width, &mut h.height, &mut h.levels, &mut h.faces, &mut h.format, &mut h.color_endpoints.count, &mut h.alpha_selectors.count];
+        let Some(field) = fields.into_iter().nth(dice.below(7)) else { return };
+        *field = dice.wild(*field as u64) as u32;
+    }
+    let t = &mut record.tables;
+    if dice.one_in(2) {
+        let tables = [&mut t.chunk_encoding, &mut t.color_endpoint_delta, &mut t.color_selector_delta, &mut t.alpha_endpoint_delta];
+        let Some(table) = tables.into_iter().nth(dice.below(4)) else { return };
+        let at = dice.below(table.count.clamp(1, 8192) as usize);
+        match dice.below(4) {
+            0 => table.count = dice.wild(table.count as u64) as u32,
+            // a symbol that no encoder sends
+            1 => {
+                table.lengths.swap(at, at % 1024 + 1024);
+                table.count = 8192;
+            }
+            _ => table.lengths[at] = dice.below(20) as u8,
+        }
+    }
+}
+
+fn round(samples: &[Vec<u8>], seed: u64, tally: &mut Tally) {
+    let dice = &mut Dice::new(seed);
+    let whole = &samples[dice.below(samples.len())];
+    let file = damaged(whole, dice);
+    let near = dice.one_in(4);
+    let (mut o, mut lent) = opened(&file, near, dice, tally);
+    let crn = Crn::open(&file);
+    assert!(near || crn.as_ref().map_or_else(|refusal| refusal.number(), |_| 0) == o.refusal, "Crn::open and open part ways");
+    if let Ok(crn) = crn {
+        let level = dice.below(20) as u32;
+        let sized = crn.level_sizes(level).map(|sizes| sizes.bytes);
+        let made = crn.unpack_level(level);
+        assert!(sized.is_ok() || made.as_ref().err() == sized.as_ref().err(), "a level without sizes was unpacked");
+        assert!(made.is_err() || made.map(|level| level.blocks.len()) == sized, "a level is longer or shorter than its sizes");
+    }
+    if o.refusal != 0 {
+        // the whole file's record, beside the damaged file
+        (o, lent) = opened(whole, false, dice, tally);
+    }
+    if dice.one_in(6) {
+        edited(&mut o.file, dice);
+    }
+    for _ in 0..4 {
+        unpacked(&o.file, &file, &lent, dice, tally);
+    }
+}
+
+fn main() {
+    let mut words = std::env::args().skip(1);
+    let usage = "usage: crn-fuzz [--seed S] (--rounds N | MINUTES) FILE..";
+    let (mut seed, mut rounds, mut until, mut samples) = (None, u64::MAX, None, Vec::new());
+    while let Some(word) = words.next() {
+        match word.as_str() {
+            "--seed" => seed = Some(words.next().and_then(|w| w.parse().ok()).expect(usage)),
+            "--rounds" => rounds = words.next().and_then(|w| w.parse().ok()).expect(usage),
+            _ if until.is_none() && rounds == u64::MAX => {
+                let minutes: f64 = word.parse().expect(usage);
+                until = Some(Instant::now() + Duration::from_secs_f64(60.0 * minutes));
+            }
+            _ => samples.push(std::fs::read(&word).unwrap_or_else(|e| panic!("{word}: {e}"))),
+        }
+    }
+    assert!(!samples.is_empty() && (until.is_some() || rounds < u64::MAX), "{usage}");
+    let first = seed.unwrap_or_else(|| std::time::UNIX_EPOCH.elapsed().map_or(1, |t| t.as_secs() << 24));
+    let (mut tally, mut n) = (Tally::default(), 0);
+    while n < rounds && until.is_none_or(|end| Instant::now() < end) {
+        let seed = first.wrapping_add(n);
+        if let Err(broken) = std::panic::catch_unwind(std::panic::AssertUnwindSafe(|| round(&samples, seed, &mut tally))) {
+            eprintln!("crn-fuzz: a promise is broken; `crn-fuzz --seed {seed} --rounds 1` with the same files shows it");
+            std::panic::resume_unwind(broken);
+        }
+        n += 1;
+    }
+    println!("{n} rounds from seed {first}, no promise broken");
+    for (what, counts) in [("opened", tally.opened), ("unpacked", tally.unpacked)] {
+        let refused: Vec<String> = (1..16).filter(|r| counts[*r] > 0).map(|r| format!("{} by {r}", counts[r])).collect();
+        println!("{what}: {} accepted; refused: {}", counts[0], refused.join(", "));
+    }
+}

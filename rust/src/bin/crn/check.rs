@@ -1,0 +1,227 @@
+//! `crn check`: every level of every file.
+use crate::{files, say, Failure};
+use crunch_proved::{Crn, Refusal};
+use std::collections::BTreeMap;
+use std::io::{IsTerminal, Write};
+use std::path::{Path, PathBuf};
+use std::sync::atomic::{AtomicUsize, Ordering};
+use std::sync::mpsc;
+use std::time::{Duration, Instant};
+
+/// What a file holds that was accepted whole.
+struct Accepted {
+    format: &'static str,
+    width: u32,
+    height: u32,
+    levels: u32,
+    faces: u32,
+    symbols: u64,
+    cutouts: u64,
+}
+
+/// Why a file was not: a refusal, of the file or of its first level that is refused; or it could not be read.
+enum Fault {
+    Refused(Refusal, Option<u32>),
+    Trouble(String),
+}
+
+pub fn run(words: &[String]) -> Result<(), Failure> {
+    let (options, names): (Vec<_>, Vec<_>) = words.iter().cloned().partition(|w| w.starts_with("--"));
+    if let Some(option) = options.iter().find(|o| *o != "--json") {
+        return Err(Failure::Usage(format!("`crn check` has no option '{option}'")));
+    }
+    if names.is_empty() {
+        return Err(Failure::Usage("`crn check` needs a file or a folder".into()));
+    }
+    let json = !options.is_empty();
+    let found = files::found(&names);
+    let (mut bar, mut tally) = (Bar::new(found.len()), Tally::default());
+    let mut out = std::io::BufWriter::new(std::io::stdout());
+    in_order(&found, |path, answer| {
+        tally.count(&answer);
+        let line = if json { Some(as_json(path, &answer)) } else { as_text(path, &answer) };
+        if let Some(line) = line {
+            bar.clear();
+            writeln!(out, "{line}")?;
+            if bar.shown {
+                out.flush()?;
+            }
+        }
+        bar.step(&tally);
+        Ok(())
+    })?;
+    bar.clear();
+    let summary = tally.summary();
+    if json {
+        eprint!("{summary}");
+    } else {
+        out.write_all(summary.as_bytes())?;
+    }
+    out.flush()?;
+    if tally.accepted == found.len() {
+        Ok(())
+    } else {
+        Err(Failure::Said)
+    }
+}
+
+/// Unpacks all files, on every processor, and hands each answer over in the files' order.
+fn in_order(found: &[(PathBuf, Option<String>)], mut each: impl FnMut(&Path, Result<Accepted, Fault>) -> std::io::Result<()>) -> std::io::Result<()> {
+    let workers = std::thread::available_parallelism().map_or(1, |n| n.get()).min(found.len());
+    let next = AtomicUsize::new(0);
+    let (send, receive) = mpsc::sync_channel(64 * workers);
+    std::thread::scope(|scope| {
+        for _ in 0..workers {
+            let (send, next) = (send.clone(), &next);
+            scope.spawn(move || loop {
+                let n = next.fetch_add(1, Ordering::Relaxed);
+                let Some((path, trouble)) = found.get(n) else { break };
+                let answer = match trouble {
+                    Some(why) => Err(Fault::Trouble(why.clone())),
+                    None => whole(path),
+                };
+                if send.send((n, answer)).is_err() {
+                    break;
+                }
+            });
+        }
+        drop(send);
+        let (mut early, mut due) = (BTreeMap::new(), 0);
+        for (n, answer) in receive {
+            early.insert(n, answer);
+            while let Some(answer) = early.remove(&due) {
+                each(&found[due].0, answer)?;
+                due += 1;
+            }
+        }
+        Ok(())
+    })
+}
+
+fn whole(path: &Path) -> Result<Accepted, Fault> {
+    let file = files::read(path).map_err(Fault::Trouble)?;
+    let crn = Crn::open(&file).map_err(|refusal| Fault::Refused(refusal, None))?;
+    let (mut symbols, mut cutouts) = (0, 0);
+    for level in 0..crn.levels() {
+        let counts = crn.unpack_level(level).map_err(|refusal| Fault::Refused(refusal, Some(level)))?.counts;
+        symbols += counts.symbols;
+        cutouts += counts.cutouts;
+    }
+    Ok(Accepted { format: crn.format().name(), width: crn.width(), height: crn.height(), levels: crn.levels(), faces: crn.faces(), symbols, cutouts })
+}
+
+/// A line for a file that was not accepted.
+fn as_text(path: &Path, answer: &Result<Accepted, Fault>) -> Option<String> {
+    match answer {
+        Ok(_) => None,
+        Err(Fault::Refused(refusal, None)) => Some(format!("{}: {refusal}", path.display())),
+        Err(Fault::Refused(refusal, Some(level))) => Some(format!("{}: level {level}: {refusal}", path.display())),
+        Err(Fault::Trouble(why)) => Some(format!("{}: {why}", path.display())),
+    }
+}
+
+fn as_json(path: &Path, answer: &Result<Accepted, Fault>) -> String {
+    let file = quoted(&path.to_string_lossy());
+    match answer {
+        Ok(a) => format!(
+            "{{\"file\":{file},\"accepted\":true,\"format\":{},\"width\":{},\"height\":{},\"levels\":{},\"faces\":{},\"symbols\":{},\"cutouts\":{}}}",
+            quoted(a.format),
+            a.width,
+            a.height,
+            a.levels,
+            a.faces,
+            a.symbols,
+            a.cutouts
+        ),
+        Err(Fault::Refused(refusal, level)) => {
+            let number = |n: Option<usize>| n.map_or("null".into(), |n| n.to_string());
+            format!(
+                "{{\"file\":{file},\"accepted\":false,\"refusal\":{},\"level\":{},\"bit\":{},\"sentence\":{}}}",
+                refusal.number(),
+                number(level.map(|l| l as usize)),
+                number(refusal.bit()),
+                quoted(refusal.sentence())
+            )
+        }
+        Err(Fault::Trouble(why)) => format!("{{\"file\":{file},\"accepted\":false,\"error\":{}}}", quoted(why)),
+    }
+}
+
+/// A text as JSON has it.
+fn quoted(text: &str) -> String {
+    let mut out = String::from("\"");
+    for c in text.chars() {
+        match c {
+            '"' | '\\' => out.extend(['\\', c]),
+            c if (c as u32) < 32 => out += &format!("\\u{:04x}", c as u32),
+            c => out.push(c),
+        }
+    }
+    out + "\""
+}
+
+/// How many were accepted, refused by which number, and not read.
+#[derive(Default)]
+struct Tally {
+    accepted: usize,
+    refused: BTreeMap<u32, (usize, &'static str)>,
+    unread: usize,
+}
+
+impl Tally {
+    fn count(&mut self, answer: &Result<Accepted, Fault>) {
+        match answer {
+            Ok(_) => self.accepted += 1,
+            Err(Fault::Refused(refusal, _)) => self.refused.entry(refusal.number()).or_insert((0, refusal.sentence())).0 += 1,
+            Err(Fault::Trouble(_)) => self.unread += 1,
+        }
+    }
+
+    fn refusals(&self) -> usize {
+        self.refused.values().map(|r| r.0).sum()
+    }
+
+    fn summary(&self) -> String {
+        let n = |n: usize| say::number(n as u64);
+        let all = self.accepted + self.refusals() + self.unread;
+        let mut out = format!("{}: {} accepted, {} refused", say::count(all as u64, "file"), n(self.accepted), n(self.refusals()));
+        if self.unread > 0 {
+            out += &format!(", {} not read", n(self.unread));
+        }
+        for (number, (count, sentence)) in &self.refused {
+            out += &format!("\n  {} by {number}: {sentence}", n(*count));
+        }
+        out + "\n"
+    }
+}
+
+/// A bar on a terminal; nothing elsewhere.
+struct Bar {
+    shown: bool,
+    all: usize,
+    done: usize,
+    drawn: Option<Instant>,
+}
+
+impl Bar {
+    fn new(all: usize) -> Bar {
+        Bar { shown: std::io::stderr().is_terminal(), all, done: 0, drawn: None }
+    }
+
+    fn step(&mut self, tally: &Tally) {
+        self.done += 1;
+        let due = self.drawn.is_none_or(|at| at.elapsed() > Duration::from_millis(100));
+        if self.shown && due {
+            let full = 30 * self.done / self.all;
+            let (bar, rest) = ("#".repeat(full), ".".repeat(30 - full));
+            eprint!("\r[{bar}{rest}] {} of {} files, {} refused", self.done, self.all, tally.refusals());
+            self.drawn = Some(Instant::now());
+        }
+    }
+
+    fn clear(&mut self) {
+        if self.shown && self.drawn.take().is_some() {
+            eprint!("\r\x1b[K");
+        }
+    }
+}

@@ -1,0 +1,222 @@
+//! Opens CRN files (crunched DXT textures) and unpacks their levels into DXT1, DXT5, DXT5A or DXN blocks, by code that is proved: see the repository's README.
+//!
+//! A file may hold anything, and every argument may be wrong: each call ends, with blocks or with a numbered [`Refusal`].
+//!
+//! ```
+//! use crunch_proved::Crn;
+//!
+//! let file = std::fs::read("../samples/dxt1.crn")?;
+//! let crn = Crn::open(&file)?;
+//! assert_eq!((crn.width(), crn.height(), crn.levels(), crn.faces()), (64, 64, 7, 1));
+//! let level = crn.unpack_level(0)?;
+//! assert_eq!(level.blocks.len(), 16 * 16 * 8);
+//! # Ok::<(), Box<dyn std::error::Error>>(())
+//! ```
+//!
+//! All that is `unsafe` stands in the module [`raw`].
+
+#![deny(unsafe_code)]
+#![warn(missing_docs)]
+
+mod format;
+#[allow(unsafe_code, missing_docs)]
+pub mod raw;
+#[allow(missing_docs)] // a bit is a bit
+mod refusal;
+
+pub use format::Format;
+pub use refusal::Refusal;
+
+/// An opened file: its record and its palettes, beside the file's bytes.
+#[derive(Clone, Debug)]
+pub struct Crn<'a> {
+    file: &'a [u8],
+    format: Format,
+    record: Box<raw::Record>,
+    color_endpoints: Vec<u32>,
+    color_selectors: Vec<u32>,
+    alpha_endpoints: Vec<u16>,
+    alpha_selectors: Vec<u16>,
+}
+
+/// The symbols that a level drew, and its cut-outs: DXT1 blocks, over all faces, whose first colour word is below the second (0 for other formats).
+#[derive(Clone, Copy, Debug, PartialEq, Eq, Hash)]
+pub struct Counts {
+    /// The symbols drawn.
+    pub symbols: u64,
+    /// The cut-outs.
+    pub cutouts: u64,
+}
+
+/// A level unpacked: the blocks of every face, row by row, with nothing between them.
+#[derive(Clone, Debug, PartialEq, Eq)]
+pub struct Level {
+    /// The blocks' bytes, face after face.
+    pub blocks: Vec<u8>,
+    /// Their format.
+    pub format: Format,
+    /// Faces: 1, or 6 of a cube map.
+    pub faces: u32,
+    /// Blocks of a row.
+    pub columns: usize,
+    /// Rows of blocks of a face.
+    pub rows: usize,
+    /// Symbols and cut-outs.
+    pub counts: Counts,
+}
+
+impl Level {
+    /// The blocks of one face; nothing for a face that the file does not have.
+    ///
+    /// ```
+    /// # let file = std::fs::read("../samples/cube.crn")?;
+    /// let level = crunch_proved::Crn::open(&file)?.unpack_level(1)?;
+    /// assert_eq!(level.face(5).map(|blocks| blocks.len()), Some(2 * 2 * 8));
+    /// assert_eq!(level.face(6), None);
+    /// # Ok::<(), Box<dyn std::error::Error>>(())
+    /// ```
+    pub fn face(&self, face: usize) -> Option<&[u8]> {
+        self.blocks.chunks(self.blocks.len() / self.faces as usize).nth(face)
+    }
+}
+
+impl<'a> Crn<'a> {
+    /// Opens a file: its header, its code tables and its palettes.
+    ///
+    /// ```
+    /// use crunch_proved::{Crn, Refusal};
+    ///
+    /// let refusal = Crn::open(b"a picture of another kind").unwrap_err();
+    /// assert_eq!(refusal, Refusal::NotCrn);
+    /// assert_eq!(refusal.number(), 1);
+    /// assert!(refusal.to_string().starts_with("refused, 1: this is no CRN file"));
+    /// ```
+    pub fn open(file: &'a [u8]) -> Result<Crn<'a>, Refusal> {
+        let looked = raw::look(file);
+        if let Some(refusal) = Refusal::of(looked.refusal, 0) {
+            return Err(refusal);
+        }
+        let words = raw::palette_words(&looked.header);
+        let mut color_endpoints = vec![0; words.color_endpoints];
+        let mut color_selectors = vec![0; words.color_selectors];
+        let mut alpha_endpoints = vec![0; words.alpha_endpoints];
+        let mut alpha_selectors = vec![0; words.alpha_selectors];
+        let opened = raw::open(
+            file,
+            &mut raw::PalettesMut {
+                color_endpoints: &mut color_endpoints,
+                color_selectors: &mut color_selectors,
+                alpha_endpoints: &mut alpha_endpoints,
+                alpha_selectors: &mut alpha_selectors,
+            },
+        );
+        if let Some(refusal) = Refusal::of(opened.refusal, opened.at) {
+            return Err(refusal);
+        }
+        let format = Format::of(opened.file.header.format).expect("a file that opens has a known format");
+        Ok(Crn { file, format, record: Box::new(opened.file), color_endpoints, color_selectors, alpha_endpoints, alpha_selectors })
+    }
+
+    /// Columns of pixels of level 0.
+    pub fn width(&self) -> u32 {
+        self.record.header.width
+    }
+
+    /// Rows of pixels of level 0.
+    pub fn height(&self) -> u32 {
+        self.record.header.height
+    }
+
+    /// How many levels the file has, 1 to 13.
+    pub fn levels(&self) -> u32 {
+        self.record.header.levels
+    }
+
+    /// 1, or 6 of a cube map.
+    pub fn faces(&self) -> u32 {
+        self.record.header.faces
+    }
+
+    /// The format of the blocks.
+    pub fn format(&self) -> Format {
+        self.format
+    }
+
+    /// The header's fields as read.
+    pub fn header(&self) -> &raw::Header {
+        &self.record.header
+    }
+
+    /// The four palettes: colour endpoints and selectors, a word each; alpha endpoints, a word each, and selectors, three.
+    pub fn palettes(&self) -> raw::Palettes<'_> {
+        raw::Palettes {
+            color_endpoints: &self.color_endpoints,
+            color_selectors: &self.color_selectors,
+            alpha_endpoints: &self.alpha_endpoints,
+            alpha_selectors: &self.alpha_selectors,
+        }
+    }
+
+    /// Columns and rows of pixels of a level.
+    pub fn pixels(&self, level: u32) -> Result<(u32, u32), Refusal> {
+        let side = |all: u32| (all >> level).max(1);
+        self.level_sizes(level).map(|_| (side(self.width()), side(self.height())))
+    }
+
+    /// A level's blocks; the least pitch, distance and destination for them; and the full symbol allowance.
+    pub fn level_sizes(&self, level: u32) -> Result<raw::LevelSizes, Refusal> {
+        let sizes = raw::level_sizes(&self.record.header, level);
+        Refusal::of(sizes.refusal, 0).map_or(Ok(sizes), Err)
+    }
+
+    /// Unpacks a level, all faces.
+    ///
+    /// ```
+    /// # let file = std::fs::read("../samples/dxt5.crn")?;
+    /// let crn = crunch_proved::Crn::open(&file)?;
+    /// let level = crn.unpack_level(1)?;
+    /// assert_eq!((level.columns, level.rows), (6, 4));
+    /// assert_eq!(crn.unpack_level(9), Err(crunch_proved::Refusal::Level));
+    /// # Ok::<(), Box<dyn std::error::Error>>(())
+    /// ```
+    pub fn unpack_level(&self, level: u32) -> Result<Level, Refusal> {
+        let sizes = self.level_sizes(level)?;
+        let (mut blocks, mut budget) = (vec![0; sizes.bytes], sizes.symbols);
+        let counts = self.unpack_level_into(level, sizes.pitch, sizes.distance, &mut budget, &mut blocks)?;
+        Ok(Level { blocks, format: self.format, faces: self.faces(), columns: sizes.columns, rows: sizes.rows, counts })
+    }
+
+    /// Unpacks a level, all faces, into `dst`: face f starts at f times the distance, and rows of blocks are a pitch apart, both in bytes. Each symbol drawn is
+    /// taken off the budget; with less than the level needs the answer is [`Refusal::Budget`].
+    ///
+    /// Bytes that belong to no block are left as they were. A level refused before its first symbol leaves `dst` untouched, one refused later leaves its blocks zero.
+    ///
+    /// ```
+    /// # let file = std::fs::read("../samples/dxt1.crn")?;
+    /// let crn = crunch_proved::Crn::open(&file)?;
+    /// let sizes = crn.level_sizes(2)?;
+    /// let mut image = vec![0xAA; 4 * 64];
+    /// let mut budget = sizes.symbols;
+    /// let counts = crn.unpack_level_into(2, 64, 4 * 64, &mut budget, &mut image)?;
+    /// assert_eq!(budget, sizes.symbols - counts.symbols);
+    /// assert!(image.chunks(64).all(|row| row[sizes.pitch..] == [0xAA; 32]));
+    /// # Ok::<(), Box<dyn std::error::Error>>(())
+    /// ```
+    pub fn unpack_level_into(&self, level: u32, pitch: usize, distance: usize, budget: &mut u64, dst: &mut [u8]) -> Result<Counts, Refusal> {
+        let answer = raw::unpack_level(&self.record, self.file, &self.palettes(), level, pitch, distance, budget, dst);
+        Refusal::of(answer.refusal, answer.at).map_or(Ok(Counts { symbols: answer.symbols, cutouts: answer.cutouts }), Err)
+    }
+}
+
+/// The blocks of level 0, in the place of texture2ddecoder's `decode_crunch`, which unpacks the same blocks before it makes texels of them. That function refuses
+/// cube maps; here they come with all six faces.
+///
+/// ```
+/// let file = std::fs::read("../samples/dxn.crn")?;
+/// let level = crunch_proved::decode_crunch(&file)?;
+/// assert_eq!((level.format.kind(), level.blocks.len()), ("DXN", 8 * 8 * 16));
+/// # Ok::<(), Box<dyn std::error::Error>>(())
+/// ```
+pub fn decode_crunch(file: &[u8]) -> Result<Level, Refusal> {
+    Crn::open(file)?.unpack_level(0)
+}

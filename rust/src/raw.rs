@@ -1,0 +1,218 @@
+//! The archive's functions over plain slices, as [`Crn`](crate::Crn) calls them. They take any argument, allocate nothing and are safe to call; all that is
+//! `unsafe` in this package stands here: a slice is handed over as its pointer and its length.
+//!
+//! The structs are those of `include/crunch.h`, where each field is told.
+
+/// Where a part of the file stands, and how many palette entries it has.
+#[repr(C)]
+#[derive(Clone, Copy, Debug, PartialEq, Eq)]
+pub struct Part {
+    pub offset: u32,
+    pub size: u32,
+    pub count: u32,
+}
+
+/// The header's fields as read. A level that the file does not have is at offset 0.
+#[repr(C)]
+#[derive(Clone, Copy, Debug, PartialEq, Eq)]
+pub struct Header {
+    pub header_size: u32,
+    pub header_crc16: u32,
+    pub data_size: u32,
+    pub data_crc16: u32,
+    pub width: u32,
+    pub height: u32,
+    pub levels: u32,
+    pub faces: u32,
+    pub format: u32,
+    pub flags: u32,
+    pub reserved: u32,
+    pub userdata0: u32,
+    pub userdata1: u32,
+    pub color_endpoints: Part,
+    pub color_selectors: Part,
+    pub alpha_endpoints: Part,
+    pub alpha_selectors: Part,
+    pub tables_size: u32,
+    pub tables_offset: u32,
+    pub level_offsets: [u32; 13],
+}
+
+/// A code table: how many symbols it was sent for, and each symbol's code length, zero beyond the count.
+#[repr(C)]
+#[derive(Clone, Copy, Debug, PartialEq, Eq)]
+pub struct Table {
+    pub count: u32,
+    pub lengths: [u8; 8192],
+}
+
+/// The five code tables of a file's levels.
+#[repr(C)]
+#[derive(Clone, Copy, Debug, PartialEq, Eq)]
+pub struct Tables {
+    pub chunk_encoding: Table,
+    pub color_endpoint_delta: Table,
+    pub color_selector_delta: Table,
+    pub alpha_endpoint_delta: Table,
+    pub alpha_selector_delta: Table,
+}
+
+/// An opened file, without its palettes.
+#[repr(C)]
+#[derive(Clone, Copy, Debug, PartialEq, Eq)]
+pub struct Record {
+    pub header: Header,
+    pub tables: Tables,
+}
+
+/// What [`look`] answers: refusal 0 with the header, or a refusal.
+#[repr(C)]
+#[derive(Clone, Copy, Debug, PartialEq, Eq)]
+pub struct Looked {
+    pub refusal: u32,
+    pub header: Header,
+}
+
+/// What [`open`] answers: refusal 0 with the record; or the refusal and the bit that it names, counted from its segment's first, with an empty record.
+#[repr(C)]
+#[derive(Clone, Copy, Debug, PartialEq, Eq)]
+pub struct Opened {
+    pub refusal: u32,
+    pub at: usize,
+    pub file: Record,
+}
+
+/// What [`unpack_level`] answers: refusal 0 with the symbols drawn and the cut-outs; or the refusal, the bit that it names and the symbols drawn.
+#[repr(C)]
+#[derive(Clone, Copy, Debug, PartialEq, Eq)]
+pub struct Answer {
+    pub refusal: u32,
+    pub at: usize,
+    pub symbols: u64,
+    pub cutouts: u64,
+}
+
+/// How many words the buffer of each palette has to hold.
+#[repr(C)]
+#[derive(Clone, Copy, Debug, PartialEq, Eq)]
+pub struct PaletteWords {
+    pub color_endpoints: usize,
+    pub color_selectors: usize,
+    pub alpha_endpoints: usize,
+    pub alpha_selectors: usize,
+}
+
+/// A level's blocks; the least pitch, distance and destination for them; and the full symbol allowance, with which no level runs out. All are zero where the
+/// refusal is 2 (a header beyond its limits) or 10 (a level that the file does not have).
+#[repr(C)]
+#[derive(Clone, Copy, Debug, PartialEq, Eq)]
+pub struct LevelSizes {
+    pub refusal: u32,
+    pub columns: usize,
+    pub rows: usize,
+    pub block_bytes: usize,
+    pub pitch: usize,
+    pub distance: usize,
+    pub bytes: usize,
+    pub symbols: u64,
+}
+
+/// The four palettes' buffers, lent to be read.
+#[derive(Clone, Copy, Debug)]
+pub struct Palettes<'a> {
+    pub color_endpoints: &'a [u32],
+    pub color_selectors: &'a [u32],
+    pub alpha_endpoints: &'a [u16],
+    pub alpha_selectors: &'a [u16],
+}
+
+/// The four palettes' buffers, lent to be filled.
+#[derive(Debug)]
+pub struct PalettesMut<'a> {
+    pub color_endpoints: &'a mut [u32],
+    pub color_selectors: &'a mut [u32],
+    pub alpha_endpoints: &'a mut [u16],
+    pub alpha_selectors: &'a mut [u16],
+}
+
+#[rustfmt::skip]
+extern "C" {
+    fn crunch_look(file: *const u8, file_len: usize) -> Looked;
+    fn crunch_palette_words(header: Header) -> PaletteWords;
+    fn crunch_level_sizes(header: Header, level: u32) -> LevelSizes;
+    fn crunch_open(
+        file: *const u8, file_len: usize,
+        color_endpoints: *mut u32, color_endpoints_len: usize, color_selectors: *mut u32, color_selectors_len: usize,
+        alpha_endpoints: *mut u16, alpha_endpoints_len: usize, alpha_selectors: *mut u16, alpha_selectors_len: usize,
+    ) -> Opened;
+    fn crunch_unpack_level(
+        record: Record, file: *const u8, file_len: usize,
+        color_endpoints: *const u32, color_endpoints_len: usize, color_selectors: *const u32, color_selectors_len: usize,
+        alpha_endpoints: *const u16, alpha_endpoints_len: usize, alpha_selectors: *const u16, alpha_selectors_len: usize,
+        level: u32, pitch: usize, distance: usize, budget: *mut u64, dst: *mut u8, dst_len: usize,
+    ) -> Answer;
+}
+
+/// The header of a file: opening's refusals 1, 2 and 3, without the streams.
+pub fn look(file: &[u8]) -> Looked {
+    // SAFETY: the pointer and the length are those of a slice that lives through the call, here and below.
+    unsafe { crunch_look(file.as_ptr(), file.len()) }
+}
+
+/// How many words of each palette's buffer opening fills.
+pub fn palette_words(header: &Header) -> PaletteWords {
+    // SAFETY: a struct by value.
+    unsafe { crunch_palette_words(*header) }
+}
+
+/// The sizes of a level.
+pub fn level_sizes(header: &Header, level: u32) -> LevelSizes {
+    // SAFETY: a struct by value.
+    unsafe { crunch_level_sizes(*header, level) }
+}
+
+/// Opens a file. Refused by 1 to 5 it leaves the buffers untouched, refused later it leaves them zero.
+pub fn open(file: &[u8], palettes: &mut PalettesMut<'_>) -> Opened {
+    let PalettesMut { color_endpoints: ce, color_selectors: cs, alpha_endpoints: ae, alpha_selectors: al } = palettes;
+    // SAFETY: as in `look`; the buffers that are written are lent as `&mut`, so none overlaps another.
+    unsafe {
+        crunch_open(file.as_ptr(), file.len(), ce.as_mut_ptr(), ce.len(), cs.as_mut_ptr(), cs.len(), ae.as_mut_ptr(), ae.len(), al.as_mut_ptr(), al.len())
+    }
+}
+
+/// Unpacks a level of every face: face f starts at f times the distance, rows are a pitch apart. The budget is counted down by each symbol drawn.
+#[allow(clippy::too_many_arguments)]
+pub fn unpack_level(
+    record: &Record,
+    file: &[u8],
+    palettes: &Palettes<'_>,
+    level: u32,
+    pitch: usize,
+    distance: usize,
+    budget: &mut u64,
+    dst: &mut [u8],
+) -> Answer {
+    let Palettes { color_endpoints: ce, color_selectors: cs, alpha_endpoints: ae, alpha_selectors: al } = *palettes;
+    // SAFETY: as in `open`.
+    unsafe {
+        crunch_unpack_level(
+            *record,
+            file.as_ptr(),
+            file.len(),
+            ce.as_ptr(),
+            ce.len(),
+            cs.as_ptr(),
+            cs.len(),
+            ae.as_ptr(),
+            ae.len(),
+            al.as_ptr(),
+            al.len(),
+            level,
+            pitch,
+            distance,
+            budget,
+            dst.as_mut_ptr(),
+            dst.len(),
+        )
+    }
+}

@@ -1,0 +1,128 @@
+//! The same blocks as the Rust crate texture2ddecoder 0.1.2: samples/answers.txt has its answers, and the gate's program crn_cases has the answers of its own.
+mod common;
+use common::{hash, root, sample};
+use crunch_proved::raw::{self, Palettes, PalettesMut, Record};
+use crunch_proved::{decode_crunch, Crn};
+
+#[test]
+fn levels_are_the_rust_crates() {
+    let lines = std::fs::read_to_string(root("samples/answers.txt")).unwrap();
+    for line in lines.lines() {
+        let words: Vec<&str> = line.split(' ').collect();
+        let [name, level, face, bytes, theirs] = words[..] else { panic!("{line}") };
+        let file = sample(name);
+        let made = Crn::open(&file).unwrap().unpack_level(level.parse().unwrap()).unwrap();
+        let blocks = made.face(face.parse().unwrap()).unwrap();
+        assert_eq!((blocks.len().to_string().as_str(), format!("{:016x}", hash(blocks.iter().copied())).as_str()), (bytes, theirs), "{line}");
+        if level == "0" {
+            assert_eq!(decode_crunch(&file).unwrap(), made, "{line}");
+        }
+    }
+    assert_eq!(lines.lines().count(), 29);
+}
+
+/// Numbers, little-endian, from the cases' bytes.
+struct Cases<'a>(&'a [u8]);
+
+impl<'a> Cases<'a> {
+    fn bytes(&mut self, n: usize) -> &'a [u8] {
+        let (first, rest) = self.0.split_at(n);
+        self.0 = rest;
+        first
+    }
+
+    fn number(&mut self, n: usize) -> u64 {
+        self.bytes(n).iter().rev().fold(0, |v, b| v << 8 | *b as u64)
+    }
+}
+
+/// A record's numbers and lengths, as docs/CASES.md has them hashed.
+fn record_bytes(r: &Record) -> Vec<u8> {
+    let h = &r.header;
+    let mut words = vec![
+        h.header_size,
+        h.header_crc16,
+        h.data_size,
+        h.data_crc16,
+        h.width,
+        h.height,
+        h.levels,
+        h.faces,
+        h.format,
+        h.flags,
+        h.reserved,
+        h.userdata0,
+        h.userdata1,
+    ];
+    for p in [h.color_endpoints, h.color_selectors, h.alpha_endpoints, h.alpha_selectors] {
+        words.extend([p.offset, p.size, p.count]);
+    }
+    words.extend([h.tables_size, h.tables_offset]);
+    words.extend(h.level_offsets);
+    let mut out: Vec<u8> = words.iter().flat_map(|w| w.to_le_bytes()).collect();
+    let t = &r.tables;
+    for table in [&t.chunk_encoding, &t.color_endpoint_delta, &t.color_selector_delta, &t.alpha_endpoint_delta, &t.alpha_selector_delta] {
+        out.extend(table.count.to_le_bytes());
+        out.extend(table.lengths);
+    }
+    out
+}
+
+/// An edit of a record, by the field numbers of docs/CASES.md.
+fn edit(r: &mut Record, field: u64, at: u64, value: u32) {
+    let (h, t) = (&mut r.header, &mut r.tables);
+    let tables = [&mut t.chunk_encoding, &mut t.color_endpoint_delta, &mut t.color_selector_delta, &mut t.alpha_endpoint_delta, &mut t.alpha_selector_delta];
+    match field {
+        1 => h.width = value,
+        2 => h.height = value,
+        3 => h.levels = value,
+        4 => h.faces = value,
+        5 => h.format = value,
+        6 => h.color_endpoints.count = value,
+        7 => h.color_selectors.count = value,
+        8 => h.alpha_endpoints.count = value,
+        9 => h.alpha_selectors.count = value,
+        10 => h.level_offsets.get_mut(at as usize).into_iter().for_each(|o| *o = value),
+        11..=15 => tables.into_iter().nth(field as usize - 11).unwrap().count = value,
+        16..=20 => tables.into_iter().nth(field as usize - 16).unwrap().lengths.get_mut(at as usize).into_iter().for_each(|l| *l = value as u8),
+        _ => {}
+    }
+}
+
+#[test]
+fn cases_are_answered_as_the_gates_program_answers_them() {
+    let input = std::fs::read(root("crates/crn_cases/stdin")).unwrap();
+    let mut cases = Cases(&input);
+    assert_eq!(cases.bytes(4), b"CASE");
+    let mut out = String::new();
+    for _ in 0..cases.number(4) {
+        let size = cases.number(4) as usize;
+        let file = cases.bytes(size);
+        let words: Vec<usize> = (0..4).map(|_| cases.number(4) as usize).collect();
+        let fill = cases.number(1) as u8;
+        let (mut ce, mut cs) = (vec![fill as u32; words[0]], vec![fill as u32; words[1]]);
+        let (mut ae, mut al) = (vec![fill as u16; words[2]], vec![fill as u16; words[3]]);
+        let opened =
+            raw::open(file, &mut PalettesMut { color_endpoints: &mut ce, color_selectors: &mut cs, alpha_endpoints: &mut ae, alpha_selectors: &mut al });
+        let lent = ce.iter().chain(&cs).flat_map(|w| w.to_le_bytes()).chain(ae.iter().chain(&al).flat_map(|w| w.to_le_bytes()));
+        out += &format!("open {} {:016x} {:016x}\n", opened.refusal, hash(lent), hash(record_bytes(&opened.file)));
+        let mut record = opened.file;
+        for _ in 0..cases.number(1) {
+            let (field, at, value) = (cases.number(1), cases.number(4), cases.number(4) as u32);
+            edit(&mut record, field, at, value);
+        }
+        for _ in 0..cases.number(1) {
+            let (level, pitch, distance) = (cases.number(4) as u32, cases.number(8) as usize, cases.number(8) as usize);
+            let (mut budget, len) = (cases.number(8), cases.number(4) as usize);
+            let mut dst = vec![fill; len];
+            let palettes = Palettes { color_endpoints: &ce, color_selectors: &cs, alpha_endpoints: &ae, alpha_selectors: &al };
+            let a = raw::unpack_level(&record, file, &palettes, level, pitch, distance, &mut budget, &mut dst);
+            out += &format!("level {} {} {} {budget} {:016x}\n", a.refusal, a.symbols, a.cutouts, hash(dst));
+        }
+    }
+    assert!(cases.0.is_empty());
+    let stored = std::fs::read_to_string(root("crates/crn_cases/stdout")).unwrap();
+    let first = out.lines().zip(stored.lines()).position(|(ours, theirs)| ours != theirs);
+    assert_eq!(first.map(|n| (n + 1, out.lines().nth(n), stored.lines().nth(n))), None);
+    assert_eq!(out.lines().count(), stored.lines().count());
+}

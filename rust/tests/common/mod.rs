@@ -1,0 +1,51 @@
+//! What the tests share.
+#![allow(dead_code)]
+use std::path::{Path, PathBuf};
+use std::process::{Command, Output};
+
+/// A file of the repository.
+pub fn root(path: &str) -> PathBuf {
+    Path::new(env!("CARGO_MANIFEST_DIR")).parent().unwrap().join(path)
+}
+
+pub fn sample(name: &str) -> Vec<u8> {
+    std::fs::read(root("samples").join(name)).unwrap()
+}
+
+/// FNV-1a of 64 bits.
+pub fn hash(bytes: impl IntoIterator<Item = u8>) -> u64 {
+    bytes.into_iter().fold(0xcbf29ce484222325, |h, b| (h ^ b as u64).wrapping_mul(0x100000001b3))
+}
+
+/// An empty folder for one test.
+pub fn room(name: &str) -> PathBuf {
+    let room = Path::new(env!("CARGO_TARGET_TMPDIR")).join(name);
+    let _ = std::fs::remove_dir_all(&room);
+    std::fs::create_dir_all(&room).unwrap();
+    room
+}
+
+/// The names in a folder, in order.
+pub fn names(folder: &Path) -> Vec<String> {
+    let mut names: Vec<String> = std::fs::read_dir(folder).unwrap().map(|e| e.unwrap().file_name().into_string().unwrap()).collect();
+    names.sort();
+    names
+}
+
+/// `crn`, run in the repository's folder.
+pub fn crn(words: &[&str]) -> Output {
+    Command::new(env!("CARGO_BIN_EXE_crn")).args(words).current_dir(root("")).output().unwrap()
+}
+
+/// The status, standard output and standard error of a run.
+pub fn told(output: Output) -> (i32, String, String) {
+    let text = |bytes: Vec<u8>| String::from_utf8(bytes).unwrap();
+    (output.status.code().expect("it ended by itself"), text(output.stdout), text(output.stderr))
+}
+
+/// A text with each of its lines' beginning spaces kept, as README shows a command's output: the block after the line with the command.
+pub fn shown(command: &str) -> String {
+    let readme = std::fs::read_to_string(root("README.md")).unwrap();
+    let after = readme.split_once(&format!("$ {command}\n")).unwrap_or_else(|| panic!("README shows no `{command}`")).1;
+    after.split("```").next().unwrap().split("\n$ ").next().unwrap().trim_end().to_string() + "\n"
+}

@@ -1,0 +1,53 @@
+/* What include/crunch.h lays out, and what the archive gives through it, for rust/tests/readme.rs to compare. */
+#include <crunch.h>
+#include <inttypes.h>
+#include <stdio.h>
+
+static uint8_t file[1 << 16], blocks[1 << 16];
+static uint32_t ce[8192], cs[8192];
+static uint16_t ae[8192], al[3 * 8192];
+
+static void told(const char *name)
+{
+    char path[64];
+    snprintf(path, sizeof path, "samples/%s", name);
+    FILE *in = fopen(path, "rb");
+    size_t size = in ? fread(file, 1, sizeof file, in) : 0;
+    struct crunch_looked looked = crunch_look(file, size);
+    struct crunch_header h = looked.header;
+    struct crunch_palette_words w = crunch_palette_words(h);
+    struct crunch_opened o = crunch_open(file, size, ce, w.color_endpoints, cs, w.color_selectors, ae, w.alpha_endpoints, al, w.alpha_selectors);
+    struct crunch_level_sizes s = crunch_level_sizes(o.file.header, 1);
+    uint64_t budget = s.symbols, hash = 0xcbf29ce484222325u;
+    struct crunch_answer a = crunch_unpack_level(o.file, file, size, ce, w.color_endpoints, cs, w.color_selectors, ae, w.alpha_endpoints, al, w.alpha_selectors,
+                                                 1, s.pitch, s.distance, &budget, blocks, s.bytes);
+    for (size_t i = 0; i < s.bytes; i++)
+        hash = (hash ^ blocks[i]) * 0x100000001b3u;
+    printf("%s %u %u %u %u %u %u\n", name, h.width, h.height, h.levels, h.faces, h.format, h.level_offsets[1]);
+    printf("words %zu %zu %zu %zu\n", w.color_endpoints, w.color_selectors, w.alpha_endpoints, w.alpha_selectors);
+    printf("sizes %zu %zu %zu %zu %zu %zu %" PRIu64 "\n", s.columns, s.rows, s.block_bytes, s.pitch, s.distance, s.bytes, s.symbols);
+    printf("level %u %zu %" PRIu64 " %" PRIu64 " %" PRIu64 "\n", a.refusal, a.at, a.symbols, a.cutouts, budget);
+    printf("blocks %" PRIu64 "\n", hash);
+}
+
+int main(void)
+{
+    printf("header %zu %zu %zu %zu %zu\n", sizeof(struct crunch_header), offsetof(struct crunch_header, format), offsetof(struct crunch_header, color_endpoints),
+           offsetof(struct crunch_header, tables_size), offsetof(struct crunch_header, level_offsets));
+    printf("record %zu %zu %zu %zu\n", sizeof(struct crunch_record), offsetof(struct crunch_record, tables), sizeof(struct crunch_table),
+           offsetof(struct crunch_record, tables.alpha_selector_delta) - offsetof(struct crunch_record, tables));
+    printf("looked %zu %zu\n", sizeof(struct crunch_looked), offsetof(struct crunch_looked, header));
+    printf("opened %zu %zu %zu\n", sizeof(struct crunch_opened), offsetof(struct crunch_opened, at), offsetof(struct crunch_opened, file));
+    printf("answer %zu %zu %zu %zu\n", sizeof(struct crunch_answer), offsetof(struct crunch_answer, at), offsetof(struct crunch_answer, symbols),
+           offsetof(struct crunch_answer, cutouts));
+    printf("words %zu %zu\n", sizeof(struct crunch_palette_words), offsetof(struct crunch_palette_words, alpha_selectors));
+    printf("sizes %zu %zu %zu\n", sizeof(struct crunch_level_sizes), offsetof(struct crunch_level_sizes, block_bytes), offsetof(struct crunch_level_sizes, symbols));
+    told("cube.crn");
+    told("dxt5.crn");
+    struct crunch_opened none = crunch_open(file, 73, ce, 8192, cs, 8192, ae, 8192, al, 3 * 8192);
+    struct crunch_header h = crunch_look(file, sizeof file).header;
+    struct crunch_header wide = h;
+    wide.width = 5000;
+    printf("refused %u %u %u %u\n", none.refusal, crunch_look((const uint8_t *)"", 0).refusal, crunch_level_sizes(h, 13).refusal, crunch_level_sizes(wide, 0).refusal);
+    return 0;
+}
