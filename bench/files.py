@@ -3,7 +3,8 @@
 
 - OUT/CODES-FORMAT-ENTRIES-N.crn, for bench/opens.rs: every palette has ENTRIES entries; one level is there for the code tables that it needs. CODES is `any` for
   the generator's codes, whose lengths have nothing to do with how often a symbol comes, and `fitted` for Huffman's, as an encoder makes them.
-- OUT/level-FORMAT-SIDE.crn, for bench/levels.rs: square, with all its levels; deltas are mostly small, and codes are fitted."""
+- OUT/level-FORMAT-SIDE.crn, for bench/table.rs: square, with all its levels; deltas are mostly small, and codes are fitted.
+- OUT/small-NNN.crn, for bench/table.rs: a thousand like these, the formats by turns, of 4 to 64 pixels a side and 10 to 60 entries a palette."""
 import collections
 import heapq
 import os
@@ -95,6 +96,10 @@ def main(out):
                     write(out, '%s-%s-%d-%d' % (codes, kind, entries, n), file(random.Random(1000 * entries + 10 * fmt + n), fmt, entries, [(side, side)], table, AnyEntry))
         for side, entries in ENTRIES.items():
             write(out, 'level-%s-%d' % (kind, side), file(random.Random(100 * side + fmt), fmt, entries, halved(side, side), fitted_table, NearEntry))
+    for n in range(1000):
+        rng = random.Random(n)
+        sides = halved(rng.randint(4, 64), rng.randint(4, 64))
+        write(out, 'small-%03d' % n, file(rng, FORMATS[n % 4][1], rng.randint(10, 60), sides, fitted_table, NearEntry))
 
 
 if __name__ == '__main__':

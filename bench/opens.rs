@@ -1,11 +1,23 @@
 // Files opened by the proved crate and by the Rust, in one process. See bench/README.md. Its argument is the folder with the files of bench/files.py.
 include!("the_rust.rs");
-include!("proved.rs");
+use crunch_proved::raw;
 use std::hint::black_box;
 use std::time::Instant;
 
 fn rust(file: &[u8]) -> crunch::crn_unpacker::CrnUnpacker<'_> {
     crunch::crn_decomp::crnd_unpack_begin(file, file.len() as u32).ok().expect("the Rust refuses a file")
+}
+
+// The palettes' buffers, used again for every file.
+struct Lent {
+    ce: Vec<u32>,
+    cs: Vec<u32>,
+    ae: Vec<u16>,
+    al: Vec<u16>,
+}
+
+fn open(file: &[u8], l: &mut Lent) -> raw::Opened {
+    raw::open(file, &mut raw::PalettesMut { color_endpoints: &mut l.ce, color_selectors: &mut l.cs, alpha_endpoints: &mut l.ae, alpha_selectors: &mut l.al })
 }
 
 // Both sides have to give the same palettes and tables.
@@ -15,7 +27,9 @@ fn compare(file: &[u8], lent: &mut Lent) {
     assert!(r.color_endpoints == lent.ce[..r.color_endpoints.len()] && r.color_selectors == lent.cs[..r.color_selectors.len()]);
     assert!(r.alpha_endpoints == lent.ae[..r.alpha_endpoints.len()] && r.alpha_selectors == lent.al[..r.alpha_selectors.len()]);
     let theirs = [&r.chunk_encoding_dm, &r.endpoint_delta_dm[0], &r.selector_delta_dm[0], &r.endpoint_delta_dm[1], &r.selector_delta_dm[1]];
-    for (ours, theirs) in p.file.tables.iter().zip(theirs) {
+    let t = &p.file.tables;
+    let ours = [&t.chunk_encoding, &t.color_endpoint_delta, &t.color_selector_delta, &t.alpha_endpoint_delta, &t.alpha_selector_delta];
+    for (ours, theirs) in ours.into_iter().zip(theirs) {
         assert_eq!(ours.lengths[..ours.count as usize], theirs.code_sizes);
     }
 }
