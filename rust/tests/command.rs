@@ -5,16 +5,11 @@ use std::process::Command;
 
 const NO_CRN: &str = "this is no CRN file: it does not begin with the letters Hx, or is shorter than any CRN file";
 
-fn samples() -> Vec<String> {
-    names(&root("samples")).into_iter().filter(|n| n.ends_with(".crn")).map(|n| format!("samples/{n}")).collect()
-}
-
 #[test]
 fn info_is_what_the_readme_shows() {
-    let samples = samples();
-    let mut words = vec!["info"];
-    words.extend(samples.iter().map(String::as_str));
-    assert_eq!(told(crn(&words)), (0, shown("./crn info samples/*.crn"), String::new()));
+    let command = "./crn info samples/*.crn";
+    let run = Command::new("sh").args(["-c", command]).current_dir(root("")).output().unwrap();
+    assert_eq!(told(run), (0, shown(command), String::new()));
 }
 
 #[test]

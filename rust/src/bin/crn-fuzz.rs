@@ -1,5 +1,7 @@
 //! `crn-fuzz [--seed S] (--rounds N | MINUTES) FILE..`: damaged files and wild arguments for the package's functions, with guards around every buffer. What a call may
 //! answer and leave is held to the promises: see `opened` and `unpacked`. It ends at the first broken one, with the seed of the round that broke it.
+#![forbid(unsafe_code)]
+
 use crunch_proved::raw::{self, Palettes, PalettesMut, Record};
 use crunch_proved::Crn;
 use std::time::{Duration, Instant};

@@ -1,4 +1,6 @@
 //! `crn`: CRN files on the command line. See USAGE.
+#![forbid(unsafe_code)]
+
 mod check;
 mod files;
 mod info;
