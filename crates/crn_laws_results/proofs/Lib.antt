@@ -6,4 +6,4 @@ pub mod Steps
 pub mod Cursors
 pub mod Tables
 pub mod Painting
-pub mod Benches
+pub mod Exports

@@ -12,6 +12,7 @@ use Rattle.crn_chunks.specs.Meaning.{Served}
 use Rattle.crn_chunks.specs.Reads.{chunked}
 use Rattle.crn_chunks.specs.declared.Stream.{Stream}
 use Rattle.crn_chunks.proofs.read_chunk.Reads as read-chunk
+use Rattle.crn_quick.proofs.read_chunk.Reads as quick-read-chunk
 use Rattle.crn_blocks.proofs.Whole.{wiped}
 use Rattle.crn_unpacker.specs.Going.{Given, given, Fit, Goes, none, stateAt}
 use Rattle.crn_unpacker.specs.declared.Went.{Went}
@@ -26,6 +27,10 @@ use Rattle.crn_laws_results.proofs.Steps.{got-or-refused}
 pub read-chunk-settled : SettledIf (λ (lookup, (sorted, (seg, (ps, _)))) r. Served ps (now lookup) (now sorted)) read-chunk.Post
     (λ (lookup, (sorted, (seg, (ps, _)))) r (_, (_, (_, (_, (_, (_, (_, (_, (out, _))))))))). chunked (ps .two) (now out) r)
 read-chunk-settled _ _ _ _ _ _ _ h _ p q = alike (p .same (h .codes) (h .coded)) (q .same (h .codes) (h .coded))
+
+pub quick-read-chunk-settled : SettledIf (λ (lookup, (sorted, (seg, (ps, _)))) r. Served ps (now lookup) (now sorted)) quick-read-chunk.Post
+    (λ (lookup, (sorted, (seg, (ps, _)))) r (_, (_, (_, (_, (_, (_, (_, (_, (out, _))))))))). chunked (ps .two) (now out) r)
+quick-read-chunk-settled _ _ _ _ _ _ _ h _ p q = alike (p .same (h .codes) (h .coded)) (q .same (h .codes) (h .coded))
 
 -- ---- a level's chunks
 

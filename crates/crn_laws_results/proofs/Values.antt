@@ -20,27 +20,28 @@ use Rattle.crn_formats.proofs.has_color.Reads as has-color
 use Rattle.crn_formats.proofs.has_alpha.Reads as has-alpha
 use Rattle.crn_formats.proofs.is_known.Reads as is-known
 use Rattle.crn_formats.proofs.block_bytes.Reads as block-bytes
-use Rattle.crn_decomp.proofs.is_signed.Reads as is-signed
-use Rattle.crn_decomp.proofs.header_of.Reads as header-of
-use Rattle.crn_decomp.proofs.within_limits.Reads as within-limits
-use Rattle.crn_decomp.proofs.sizes_hold.Reads as sizes-hold
+use Rattle.crn_header.proofs.is_signed.Reads as is-signed
+use Rattle.crn_header.proofs.header_of.Reads as header-of
+use Rattle.crn_bounds.proofs.within_limits.Reads as within-limits
+use Rattle.crn_bounds.proofs.sizes_hold.Reads as sizes-hold
 use Rattle.crn_decomp.proofs.look.Reads as look
-use Rattle.crn_decomp.proofs.segments_stand.Reads as segments-stand
-use Rattle.crn_decomp.proofs.room_for.Reads as room-for
+use Rattle.crn_segments.proofs.segments_stand.Reads as segments-stand
+use Rattle.crn_segments.proofs.room_for.Reads as room-for
 use Rattle.crn_grid.proofs.columns_of.Reads as columns-of
 use Rattle.crn_grid.proofs.rows_of.Reads as rows-of
 use Rattle.crn_grid.proofs.grid_fits.Reads as grid-fits
 use Rattle.crn_grid.proofs.reaches.Reads as reaches
-use Rattle.crn_grid.proofs.level_start.Reads as level-start
-use Rattle.crn_grid.proofs.level_end.Reads as level-end
-use Rattle.crn_grid.proofs.level_stands.Reads as level-stands
-use Rattle.crn_grid.proofs.palettes_reach.Reads as palettes-reach
+use Rattle.crn_level_checks.proofs.level_start.Reads as level-start
+use Rattle.crn_level_checks.proofs.level_end.Reads as level-end
+use Rattle.crn_level_checks.proofs.level_stands.Reads as level-stands
+use Rattle.crn_level_checks.proofs.palettes_reach.Reads as palettes-reach
 use Rattle.crn_symbol_codec.proofs.refusal.Reads as refusal
 use Rattle.crn_symbol_codec.proofs.place.Reads as place
+use Rattle.crn_symbol_codec.proofs.entry.Reads as entry
 use Rattle.crn_static_huffman_data_model.proofs.is_code.Reads as is-code
 use Rattle.crn_palettes.proofs.clear32.Reads as clear32
 use Rattle.crn_palettes.proofs.clear16.Reads as clear16
-use Rattle.crn_blocks.proofs.put_block.Reads as put-block
+use Rattle.crn_blocks.proofs.put_eight.Reads as put-eight
 use Rattle.crn_blocks.proofs.clear.Reads as clear
 use Rattle.crn_blocks.proofs.cutouts.Reads as cutouts
 use Rattle.crn_edits.proofs.edited.Reads as edited
@@ -171,6 +172,9 @@ refusal-settled _ _ _ _ _ _ _ p q = alike p q
 pub place-settled : Settled place.Post theAnswer
 place-settled _ _ _ _ _ _ _ p q = alike p q
 
+pub entry-settled : Settled entry.Post theAnswer
+entry-settled _ _ _ _ _ _ _ p q = alike p q
+
 pub is-code-settled : Settled is-code.Post theAnswer
 is-code-settled _ _ _ _ _ _ _ p q = alike p q
 
@@ -182,8 +186,8 @@ clear32-settled _ _ _ _ _ _ _ p q = alike p q
 pub clear16-settled : Settled clear16.Post (λ a r e. now (e .0))
 clear16-settled _ _ _ _ _ _ _ p q = alike p q
 
-pub put-block-settled : Settled put-block.Post (λ a r e. now (e .0))
-put-block-settled _ _ _ _ _ _ _ p q = alike p q
+pub put-eight-settled : Settled put-eight.Post (λ a r e. now (e .0))
+put-eight-settled _ _ _ _ _ _ _ p q = alike p q
 
 pub clear-settled : Settled clear.Post (λ a r e. now (e .0))
 clear-settled _ _ _ _ _ _ _ p q = alike p q

@@ -1,7 +1,7 @@
 // What a host needs to size its buffers, of any handed header.
 ghost use mathlib.Core.Path.{_≡_};
 ghost use Rattle.crunch_abi.specs.Sizes.{wordsWhere, paletteWords, close, sizesOf, noSizes, levelSizes};
-use crn_decomp::within_limits;
+use crn_bounds::within_limits;
 use crn_format::Header;
 use crn_formats::block_bytes;
 use crn_grid::columns_of;

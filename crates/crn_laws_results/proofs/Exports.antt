@@ -1,0 +1,36 @@
+-- The entry for C and Rust.
+use Prim.Native.Nat.{ℕ}
+use mathlib.Core.Path.{sym, ap, _∙_}
+use mathlib.Core.List.{List}
+use denote.Ref.{now}
+use Rattle.crn_format.specs.Opening.{Palettes}
+use Rattle.crn_formats.specs.Lent.{lentOf}
+use Rattle.crn_opening.specs.declared.opening.Opened.{Opened}
+use Rattle.crn_level.specs.declared.Unpacked.{Unpacked}
+use Rattle.crunch_abi.specs.declared.level.Answer.{Answer}
+use Rattle.crunch_abi.specs.Answers.{answerOf}
+use Rattle.crunch_abi.proofs.crunch_look.Reads as crunch-look
+use Rattle.crunch_abi.proofs.crunch_open.Reads as crunch-open
+use Rattle.crunch_abi.proofs.crunch_palette_words.Reads as crunch-palette-words
+use Rattle.crunch_abi.proofs.crunch_level_sizes.Reads as crunch-level-sizes
+use Rattle.crunch_abi.proofs.crunch_unpack_level.Reads as crunch-unpack-level
+use Rattle.crn_laws_results.specs.Settled.{Settled, theAnswer, alike, alike₂}
+use Rattle.crn_laws_results.proofs.Entry.{unpacks-settled}
+
+pub crunch-look-settled : Settled crunch-look.Post theAnswer
+crunch-look-settled _ _ _ _ _ _ _ p q = alike p q
+
+pub crunch-palette-words-settled : Settled crunch-palette-words.Post theAnswer
+crunch-palette-words-settled _ _ _ _ _ _ _ p q = alike p q
+
+pub crunch-level-sizes-settled : Settled crunch-level-sizes.Post theAnswer
+crunch-level-sizes-settled _ _ _ _ _ _ _ p q = alike p q
+
+pub crunch-open-settled : Settled {X = Opened × Palettes} crunch-open.Post (λ a r (file, (ce, (cs, (ae, (al, _))))). (r, lentOf (now ce) (now cs) (now ae) (now al)))
+crunch-open-settled _ _ _ _ _ _ _ p q = alike₂ (p .answer) (q .answer) (p .leaves) (q .leaves)
+
+pub crunch-unpack-level-settled : Settled {X = Answer × (ℕ × List ℕ)} crunch-unpack-level.Post
+    (λ a r (file, (bytes, (ce, (cs, (ae, (al, (level, (pitch, (distance, (budget, (dst, _))))))))))). (r, (now budget, now dst)))
+crunch-unpack-level-settled _ _ _ _ _ _ _ p q =
+    let same = unpacks-settled (p .unpacks) (q .unpacks) in
+    λ i. ((p .same ∙ ap (λ (x : Unpacked × (ℕ × List ℕ)). answerOf (x .0)) same ∙ sym (q .same)) i, same i .1)
