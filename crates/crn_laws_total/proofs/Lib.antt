@@ -2,7 +2,6 @@ pub mod Refusing
 pub mod OpeningReadings
 pub mod LevelReadings
 pub mod Numbers
-pub mod Answers
 pub mod Words
 pub mod Opening
 pub mod Bytes

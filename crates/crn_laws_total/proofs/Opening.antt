@@ -15,14 +15,14 @@ use Rattle.crn_format.specs.Palettes.{colorEndpoints, colorSelectors, alphaEndp
 use Rattle.crn_format.specs.Opening.{Palettes, Lengths, Opening, opened, shut, present, ofPlane, segmentsStand, roomFor, segment, zeros, zeroed, filled, onward, paletteIn, sentTables, tablesOf, streams, opening}
 use Rattle.crn_format.specs.declared.Part.{Part}
 use Rattle.crn_format.specs.declared.Header.{Header}
-use Rattle.crn_level.proofs.Limits.{both-hold}
+use Rattle.crn_format.proofs.Choices.{both-hold}
 use Rattle.crn_laws_total.specs.Refusals.{among, beforeStreams, inStreams}
 use Rattle.crn_laws_total.specs.Leaves.{Zeroed, Beyond}
 use Rattle.crn_laws_total.specs.Ends.{Shut, OpeningEnds}
 use Rattle.crn_laws_total.proofs.Numbers.{among-first, among-second, none-in-both}
 use Rattle.crn_laws_total.proofs.Refusing.{Refuses, Stops, bits-stop}
 use Rattle.crn_laws_total.proofs.OpeningReadings.{tables-refuse, color-endpoints, color-selectors, alpha-endpoints, alpha-selectors}
-use Rattle.crn_laws_total.proofs.Answers.{All, run-all}
+use Rattle.crn_format.proofs.Answers.{All, run-all}
 use Rattle.crn_laws_total.proofs.Words.{Long, color-endpoints-long, color-selectors-long, alpha-endpoints-long, alpha-selectors-long}
 
 -- ---- one buffer

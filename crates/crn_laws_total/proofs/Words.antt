@@ -8,7 +8,7 @@ use lib.ListN.{length, replicate, length-append}
 use Rattle.crn_format.specs.Reading.{Reading, next}
 use Rattle.crn_format.specs.Tables.{table}
 use Rattle.crn_format.specs.Palettes.{entries, summed, colorSums, colorWord, colorEndpoints, alphaSums, alphaWord, alphaEndpoints, changed, colorSelectorWords, alphaSelectorWords, colorSelectors, alphaSelectors}
-use Rattle.crn_laws_total.proofs.Answers.{All, all-next, Any, all-any, all-answer}
+use Rattle.crn_format.proofs.Answers.{All, all-next, Any, all-any, all-answer}
 
 -- n words
 abbrev pub Long : ℕ → List ℕ → Type 0
