@@ -5,5 +5,6 @@ pub mod Halves
 pub mod Steps
 pub mod Cursors
 pub mod Tables
+pub mod Reader
 pub mod Painting
 pub mod Exports
