@@ -15,8 +15,7 @@ use Rattle.crn_format.specs.declared.Tables.{Tables}
 use Rattle.crn_formats.specs.Lent.{lentOf}
 use Rattle.crn_palettes.specs.Filling.{answered, held, Fills}
 use Rattle.crn_palettes.specs.declared.Ended.{Ended}
-use Rattle.crn_opening.specs.SentTables.{sentOf}
-use Rattle.crn_opening.specs.declared.tables_segment.Sent.{Sent}
+use Rattle.crn_opening.specs.SentTables.{Told, sentOf}
 use Rattle.crn_opening.specs.Loading.{settled, palettesIn, PlaneEnds, PalettesEnd}
 use Rattle.crn_opening.proofs.Refusals.{Numbered, Some, run-some, tables-numbered}
 
@@ -113,13 +112,13 @@ module _ (file : List ℕ) (h : Header) (b₁ b₂ b₃ b₄ : List ℕ) where
 
 -- ---- the streams: the tables, then the palettes
 
-module _ (x : Step Place Lengths) {sent : Sent} (e : sent ≡ sentOf x) (lent : Palettes) where
+module _ (x : Step Place Lengths) {sent : Told} (e : sent ≡ sentOf x) (lent : Palettes) where
   tables-off : (sent .refusal ≡ 0 → ⊥) → (k : Lengths → Opening) → onward lent x k ≡ shut (sent .refusal) (sent .at) (zeroed lent)
   unfolding onward
   tables-off z k = by x e
     where
       by : (x : Step Place Lengths) → sent ≡ sentOf x → onward lent x k ≡ shut (sent .refusal) (sent .at) (zeroed lent)
-      by (got t w) e = absurd (z (ap (λ (x : Sent). x .refusal) e))
+      by (got t w) e = absurd (z (ap (λ (x : Told). x .refusal) e))
       by (refused n w) e = rw e
 
   tables-on : Some x → sent .refusal ≡ 0 → (k : Tables → Opening) → onward lent x (λ t. k (tablesOf t)) ≡ k (sent .tables)
@@ -128,7 +127,7 @@ module _ (x : Step Place Lengths) {sent : Sent} (e : sent ≡ sentOf x) (lent : 
     where
       by : (x : Step Place Lengths) → Some x → sent ≡ sentOf x → onward lent x (λ t. k (tablesOf t)) ≡ k (sent .tables)
       by (got t w) s e = rw e
-      by (refused n w) s e = let f : sent .refusal ≡ n = ap (λ (x : Sent). x .refusal) e in absurd (omega arith)
+      by (refused n w) s e = let f : sent .refusal ≡ n = ap (λ (x : Told). x .refusal) e in absurd (omega arith)
 
 -- how the tables segment ends, and the rest of the opening after it
 abbrev tablesRead : List ℕ → Header → Step Place Lengths
@@ -137,7 +136,7 @@ tablesRead file h = run (fromBits (segment file (h .«tables_offset») (h .«tab
 abbrev afterTables : List ℕ → Palettes → Header → Tables → Opening
 afterTables file lent h t = palettesIn file lent h (opened (record { header = h; tables = t }))
 
-module _ (file : List ℕ) (lent : Palettes) (h : Header) {sent : Sent} (e : sent ≡ sentOf (tablesRead file h)) where
+module _ (file : List ℕ) (lent : Palettes) (h : Header) {sent : Told} (e : sent ≡ sentOf (tablesRead file h)) where
   pub tables-stop : (sent .refusal ≡ 0 → ⊥) → streams file lent h ≡ shut (sent .refusal) (sent .at) (zeroed lent)
   unfolding streams palettesIn
   tables-stop z = tables-off (tablesRead file h) e lent z (λ t. afterTables file lent h (tablesOf t))

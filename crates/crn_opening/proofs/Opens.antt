@@ -5,6 +5,7 @@ use mathlib.Core.List.{List}
 use mathlib.Core.Path.{_≡_, refl, sym, ap, subst, _∙_}
 use native.Mathlib.Omega.{arith}
 use lib.ListN.{length}
+use borrow.Author.Tests.{eq-eqb}
 use Rattle.crn_format.specs.Choice.{pick}
 use Rattle.crn_format.specs.Reading.{start, run, fromBits}
 use Rattle.crn_format.specs.Header.{signed, headerOf, withinLimits, sizesHold}
@@ -15,9 +16,9 @@ use Rattle.crn_decomp.specs.Look.{found, no, lookOf}
 use Rattle.crn_decomp.specs.declared.header_look.Looked.{Looked}
 use Rattle.crn_decomp.proofs.LookAndOpen.{afterLook, look-refuses, look-goes-on}
 use Rattle.crn_palettes.specs.declared.Ended.{Ended}
-use Rattle.crn_opening.specs.declared.tables_segment.Sent.{Sent}
 use Rattle.crn_opening.specs.declared.opening.Opened.{Opened}
-use Rattle.crn_opening.specs.SentTables.{sentOf}
+use Rattle.crn_opening.specs.declared.tables_segment.Sent.{Sent}
+use Rattle.crn_opening.specs.SentTables.{Told, tablesIn, told, sentOf}
 use Rattle.crn_opening.specs.Loading.{Passed, PalettesEnd}
 use Rattle.crn_opening.specs.Opens.{closed, toOpened, buffersOf, Opens}
 use Rattle.crn_opening.proofs.Loading.{cleared, on, off, tables-stop, tables-read}
@@ -33,7 +34,7 @@ module _ {o : Opening} {after : Palettes} where
 
 -- ---- the streams
 
-module _ (file : List ℕ) (h : Header) (lent : Palettes) {sent : Sent}
+module _ (file : List ℕ) (h : Header) (lent : Palettes) {sent : Told}
     (e : sent ≡ sentOf (run (fromBits (segment file (h .«tables_offset») (h .«tables_size»))) (sentTables h) start)) where
   pub shut-by-tables : (sent .refusal ≡ 0 → ⊥) → {after : Palettes} → after ≡ zeroed lent → {r : Opened} → r ≡ closed (sent .refusal) (sent .at)
       → Opens (streams file lent h) after r
@@ -50,6 +51,13 @@ module _ (file : List ℕ) (h : Header) (lent : Palettes) {sent : Sent}
     pub streams-read : ended .refusal ≡ 0
         → Opens (streams file lent h) after (record { refusal = 0; at = 0; file = record { header = h; tables = sent .tables } })
     streams-read y = is-opened (tables-read file lent h e z ∙ p .same _ ∙ on lent ended _ y)
+
+-- the tables, as they stand in the lent arrays
+module _ (file : List ℕ) (h : Header) (lent : Palettes) (sent : Sent) (a b c d f : List ℕ)
+    (e : told sent a b c d f ≡ sentOf (run (fromBits (segment file (h .«tables_offset») (h .«tables_size»))) (sentTables h) start)) where
+  pub streams-told : sent .refusal ≡ 0 → {after : Palettes} {ended : Ended} → PalettesEnd file h lent after ended → ended .refusal ≡ 0
+      → Opens (streams file lent h) after (record { refusal = 0; at = 0; file = record { header = h; tables = tablesIn sent a b c d f } })
+  streams-told z p y = rw (eq-eqb (sent .refusal) 0 z) at (streams-read file h lent e z p y)
 
 -- ---- the checks, and then the streams
 

@@ -3,7 +3,10 @@ use Prim.Native.Nat.{ℕ}
 use mathlib.Core.Bool.{true, false}
 use mathlib.Core.List.{List}
 use mathlib.Core.Path.{_≡_, refl, sym, ap, _∙_}
+use lib.ListN.{replicate}
+use borrow.Author.Tests.{ne-eqb}
 use Rattle.crn_format.specs.Reading.{Reading, next, Step, got, refused, Place, spot, start, run, fromBits}
+use Rattle.crn_format.specs.Limits.{maxSymbols}
 use Rattle.crn_format.specs.Tables.{table}
 use Rattle.crn_format.specs.Opening.{Lengths, present, planeTables, sentTables, tablesOf}
 use Rattle.crn_format.specs.Unpacking.{lengthsOf}
@@ -14,7 +17,8 @@ use Rattle.crn_symbol_codec.specs.declared.Cursor.{Cursor}
 use Rattle.crn_static_huffman_data_model.specs.Receiving.{Receives}
 use Rattle.crn_static_huffman_data_model.specs.declared.Received.{Received}
 use Rattle.crn_static_huffman_data_model.proofs.Telling.{said-got, said-refused}
-use Rattle.crn_opening.specs.SentTables.{Ends, Pairs, emptyPair, sentOf}
+use Rattle.crn_static_huffman_data_model.proofs.Putting.{table-none}
+use Rattle.crn_opening.specs.SentTables.{Ends, tableIn, Pairs, unsent, told, sentOf}
 use Rattle.crn_opening.specs.declared.tables_segment.Pair.{Pair}
 use Rattle.crn_opening.specs.declared.tables_segment.Sent.{Sent}
 
@@ -28,69 +32,67 @@ module _ {A B : Type 0} {seg : List ℕ} {m : Reading A} {c : Cursor} {k at : �
   off z = stop (fromBits seg) m f (spot (place c) b) (e .stops z b)
 
 -- a table that was received
-pub received : {seg : List ℕ} {c : Cursor} {r : Received} → Receives seg c r → Ends seg table c (r .refusal) (r .at) (r .cursor) (lengthsOf (r .table))
-received {seg} {c} {r} e =
-    record {
-      blamed = λ b. e .blamed;
-      goes = λ z b. e .same b ∙ said-got _ _ _ _ z ∙ ap (λ (p : ℕ). got (lengthsOf (r .table)) (spot p (e .blamed))) (sym (e .goes z .1));
-      holds = λ z. e .goes z .0;
-      stops = λ z b. e .same b ∙ said-refused _ _ _ _ z;
-    }
+module _ {seg : List ℕ} {c : Cursor} {r : Received} {ls : List ℕ} (e : Receives seg c r ls) where
+  pub received : Ends seg table c (r .refusal) (r .at) (r .cursor) (lengthsOf (tableIn (r .count) ls))
+  received =
+      record {
+        blamed = λ b. e .blamed;
+        goes = λ z b. e .same b ∙ said-got _ _ _ _ z ∙ ap (λ (p : ℕ). got (lengthsOf (tableIn (r .count) ls)) (spot p (e .blamed))) (sym (e .goes z .1));
+        holds = λ z. e .goes z .0;
+        stops = λ z b. e .same b ∙ said-refused _ _ _ _ z;
+      }
 
 -- ---- a plane's two tables
 
-pub absent : {seg : List ℕ} {c : Cursor} → Holds seg c → Pairs seg false c (emptyPair 0 0 c)
+pub absent : {seg : List ℕ} {c : Cursor} {ends sels : List ℕ} → Holds seg c → ends ≡ replicate maxSymbols 0 → sels ≡ replicate maxSymbols 0
+    → Pairs seg false c (record { refusal = 0; at = 0; cursor = c; endpoints = 0; selectors = 0 }) ends sels
 unfolding planeTables
-absent {seg} {c} h =
+absent {seg} {c} h e s =
     record {
-      ends = record {
+      reads = record {
         blamed = λ b. b;
         goes = λ z b. answered (fromBits seg) _ _;
         holds = λ z. h;
         stops = λ z. absurd (z refl);
       };
-      endpoints = refl;
-      selectors = refl;
+      endpoints = λ _. table-none e;
+      selectors = λ _. table-none s;
     }
 
--- a refusal k that names the bit at: whatever is noted before it
-declined : {seg : List ℕ} {c : Cursor} {k at : ℕ} → (k ≡ 0 → ⊥)
-    → ((b : ℕ) → run (fromBits seg) (planeTables true) (spot (place c) b) ≡ refused k (spot at at)) → Pairs seg true c (emptyPair k at c)
-declined z e =
-    record {
-      ends = record { blamed = λ b. b; goes = λ y. absurd (z y); holds = λ y. absurd (z y); stops = λ _. e };
-      endpoints = refl;
-      selectors = refl;
-    }
-
-module _ {seg : List ℕ} {c : Cursor} {r : Received} (e : Receives seg c r) where
-  pub first-refused : (r .refusal ≡ 0 → ⊥) → Pairs seg true c (emptyPair (r .refusal) (r .at) c)
+module _ {seg : List ℕ} {c : Cursor} {r : Received} {ends : List ℕ} (e : Receives seg c r ends) where
+  pub first-refused : (r .refusal ≡ 0 → ⊥) → (sels : List ℕ)
+      → Pairs seg true c (record { refusal = r .refusal; at = r .at; cursor = c; endpoints = 0; selectors = 0 }) ends sels
   unfolding planeTables
-  first-refused z = declined z (λ b. off (received e) _ b z)
+  first-refused z sels =
+      record {
+        reads = record { blamed = λ b. b; goes = λ y. absurd (z y); holds = λ y. absurd (z y); stops = λ _ b. off (received e) _ b z };
+        endpoints = λ y. absurd (z y);
+        selectors = λ y. absurd (z y);
+      }
 
-  module _ (z : r .refusal ≡ 0) {s : Received} (g : Receives seg (r .cursor) s) where
-    pub second-refused : (s .refusal ≡ 0 → ⊥) → Pairs seg true c (emptyPair (s .refusal) (s .at) c)
-    unfolding planeTables
-    second-refused y = declined y (λ b. on (received e) _ b z ∙ off (received g) _ _ y)
-
-    pub both-received : s .refusal ≡ 0
-        → Pairs seg true c (record { refusal = 0; at = 0; cursor = s .cursor; endpoints = r .table; selectors = s .table })
-    unfolding planeTables
-    both-received y =
-        record {
-          ends = record {
-            blamed = λ b. received g .blamed (received e .blamed b);
-            goes = λ _ b. on (received e) _ b z ∙ on (received g) _ _ y ∙ answered (fromBits seg) _ _;
-            holds = λ _. g .goes y .0;
-            stops = λ x. absurd (x refl);
-          };
-          endpoints = e .whole;
-          selectors = g .whole;
-        }
+  pub both-received : r .refusal ≡ 0 → {s : Received} {sels : List ℕ} → Receives seg (r .cursor) s sels
+      → Pairs seg true c (record { refusal = s .refusal; at = s .at; cursor = s .cursor; endpoints = r .count; selectors = s .count }) ends sels
+  unfolding planeTables
+  both-received z g =
+      record {
+        reads = record {
+          blamed = λ b. received g .blamed (received e .blamed b);
+          goes = λ y b. on (received e) _ b z ∙ on (received g) _ _ y ∙ answered (fromBits seg) _ _;
+          holds = λ y. g .goes y .0;
+          stops = λ y b. on (received e) _ b z ∙ off (received g) _ _ y;
+        };
+        endpoints = λ _. e .whole;
+        selectors = λ _. g .whole;
+      }
 
 -- ---- the whole segment
 
-module _ {seg : List ℕ} (h : Header) {c : Cursor} (first : place c ≡ 0) {chunk : Received} (e : Receives seg c chunk) where
+-- a refusal, whatever was received before it
+pub told-refused : {k at : ℕ} {o : Step Place Lengths} → (k ≡ 0 → ⊥) → o ≡ refused k (spot at at) → {r : Sent} → r ≡ unsent k at → (a b c d e : List ℕ)
+    → told r a b c d e ≡ sentOf o
+told-refused z o u a b c d e = rw (u, o, ne-eqb _ _ z)
+
+module _ {seg : List ℕ} (h : Header) {c : Cursor} (first : place c ≡ 0) {chunk : Received} {a : List ℕ} (e : Receives seg c chunk a) where
   -- from the cursor on, which is at the segment's first bit
   sent : Step Place Lengths
   sent = run (fromBits seg) (sentTables h) start
@@ -103,34 +105,32 @@ module _ {seg : List ℕ} (h : Header) {c : Cursor} (first : place c ≡ 0) {chu
   unfolding sentTables sent
   chunk-refused z = from-first ∙ off (received e) _ 0 z
 
-  module _ (z : chunk .refusal ≡ 0) {color : Pair} (p : Pairs seg (present (h .«color_endpoints»)) (chunk .cursor) color) where
+  module _ (z : chunk .refusal ≡ 0) {color : Pair} {ce cs : List ℕ} (p : Pairs seg (present (h .«color_endpoints»)) (chunk .cursor) color ce cs) where
     pub color-refused : (color .refusal ≡ 0 → ⊥) → run (fromBits seg) (sentTables h) start ≡ refused (color .refusal) (spot (color .at) (color .at))
     unfolding sentTables sent
-    color-refused y = from-first ∙ on (received e) _ 0 z ∙ off (p .ends) _ _ y
+    color-refused y = from-first ∙ on (received e) _ 0 z ∙ off (p .reads) _ _ y
 
-    module _ (y : color .refusal ≡ 0) {alpha : Pair} (q : Pairs seg (present (h .«alpha_endpoints»)) (color .cursor) alpha) where
+    module _ (y : color .refusal ≡ 0) {alpha : Pair} {ae al : List ℕ} (q : Pairs seg (present (h .«alpha_endpoints»)) (color .cursor) alpha ae al) where
       pub alpha-refused : (alpha .refusal ≡ 0 → ⊥) → run (fromBits seg) (sentTables h) start ≡ refused (alpha .refusal) (spot (alpha .at) (alpha .at))
       unfolding sentTables sent
-      alpha-refused x = from-first ∙ on (received e) _ 0 z ∙ on (p .ends) _ _ y ∙ off (q .ends) _ _ x
+      alpha-refused x = from-first ∙ on (received e) _ 0 z ∙ on (p .reads) _ _ y ∙ off (q .reads) _ _ x
 
       pub all-sent : alpha .refusal ≡ 0
-          → _≡_ {A = Sent} (record {
+          → told (record {
             refusal = 0;
             at = 0;
-            tables = record {
-              «chunk_encoding» = chunk .table;
-              «color_endpoint_delta» = color .endpoints;
-              «color_selector_delta» = color .selectors;
-              «alpha_endpoint_delta» = alpha .endpoints;
-              «alpha_selector_delta» = alpha .selectors;
-            };
-          }) (sentOf (run (fromBits seg) (sentTables h) start))
+            chunk = chunk .count;
+            «color_endpoints» = color .endpoints;
+            «color_selectors» = color .selectors;
+            «alpha_endpoints» = alpha .endpoints;
+            «alpha_selectors» = alpha .selectors;
+          }) a ce cs ae al ≡ sentOf (run (fromBits seg) (sentTables h) start)
       unfolding sentTables sent tablesOf
       all-sent x =
-          let ran = from-first ∙ on (received e) _ 0 z ∙ on (p .ends) _ _ y ∙ on (q .ends) _ _ x ∙ answered (fromBits seg) _ _ in
-          let a = e .whole in
-          let b = p .endpoints in
-          let c = p .selectors in
-          let d = q .endpoints in
-          let f = q .selectors in
+          let ran = from-first ∙ on (received e) _ 0 z ∙ on (p .reads) _ _ y ∙ on (q .reads) _ _ x ∙ answered (fromBits seg) _ _ in
+          let f = e .whole in
+          let g = p .endpoints y in
+          let i = p .selectors y in
+          let j = q .endpoints x in
+          let k = q .selectors x in
           rw ran cc

@@ -1,18 +1,20 @@
 // Opening a file: the header look, the segments and the lent buffers, then the streams (document 01, Refusal numbers).
 use crate::palettes::read_palettes;
 use crate::palettes::segment;
-use crate::tables_segment::empty_tables;
 use crate::tables_segment::read_tables;
 use crn_decomp::look;
 use crn_segments::room_for;
 use crn_segments::segments_stand;
 use crn_format::Header;
 use crn_format::Record;
+use crn_format::Table;
+use crn_format::Tables;
 use crn_palettes::clear16;
 use crn_palettes::clear32;
 ghost use mathlib.Core.Path.{_≡_};
-ghost use Rattle.crn_format.specs.Opening.{streams, opening as «openingOf», zeroed};
+ghost use Rattle.crn_format.specs.Opening.{tablesOf, streams, opening as «openingOf», zeroed};
 ghost use Rattle.crn_formats.specs.Lent.{lentOf};
+ghost use Rattle.crn_opening.specs.SentTables.{noLengths};
 ghost use Rattle.crn_opening.specs.Loading.{Passed};
 ghost use Rattle.crn_opening.specs.Opens.{emptyRecord, closed, Opens};
 
@@ -22,6 +24,22 @@ pub struct Opened {
     pub refusal: u32,
     pub at: usize,
     pub file: Record,
+}
+
+fn empty_tables() -> Tables
+    ensures { λ r. ⌜ r ≡ tablesOf noLengths ⌝ }
+{
+    let none = Table {
+        count: 0,
+        lengths: [0; 8192],
+    };
+    Tables {
+        chunk_encoding: none,
+        color_endpoint_delta: none,
+        color_selector_delta: none,
+        alpha_endpoint_delta: none,
+        alpha_selector_delta: none,
+    }
 }
 
 // All zero. The look at no bytes gives the empty header.
@@ -76,7 +94,20 @@ fn load(
     requires { ⌜ Passed (now file) h (lentOf (now «color_endpoints») (now «color_selectors») (now «alpha_endpoints») (now «alpha_selectors»)) ⌝ }
     ensures { λ r. ⌜ Opens (streams (now (file .entry)) (lentOf (now («color_endpoints» .entry)) (now («color_selectors» .entry)) (now («alpha_endpoints» .entry)) (now («alpha_selectors» .entry))) h) (lentOf (now («color_endpoints» .exit)) (now («color_selectors» .exit)) (now («alpha_endpoints» .exit)) (now («alpha_selectors» .exit))) r ⌝ }
 {
-    let sent = read_tables(segment(file, h.tables_offset, h.tables_size), h);
+    let mut chunk = [0u8; 8192];
+    let mut color_ends = [0u8; 8192];
+    let mut color_sels = [0u8; 8192];
+    let mut alpha_ends = [0u8; 8192];
+    let mut alpha_sels = [0u8; 8192];
+    let sent = read_tables(
+        segment(file, h.tables_offset, h.tables_size),
+        h,
+        &mut chunk,
+        &mut color_ends,
+        &mut color_sels,
+        &mut alpha_ends,
+        &mut alpha_sels,
+    );
     if sent.refusal != 0 {
         clear(
             color_endpoints,
@@ -103,7 +134,28 @@ fn load(
         );
         return refused(ended.refusal, ended.at);
     }
-    let tables = sent.tables;
+    let tables = Tables {
+        chunk_encoding: Table {
+            count: sent.chunk,
+            lengths: chunk,
+        },
+        color_endpoint_delta: Table {
+            count: sent.color_endpoints,
+            lengths: color_ends,
+        },
+        color_selector_delta: Table {
+            count: sent.color_selectors,
+            lengths: color_sels,
+        },
+        alpha_endpoint_delta: Table {
+            count: sent.alpha_endpoints,
+            lengths: alpha_ends,
+        },
+        alpha_selector_delta: Table {
+            count: sent.alpha_selectors,
+            lengths: alpha_sels,
+        },
+    };
     let opened = Record {
         header: h,
         tables: tables,

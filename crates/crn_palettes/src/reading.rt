@@ -30,16 +30,15 @@ pub fn receive_decoder(seg: &[u8], c: Cursor, lookup: &mut [u32], sorted: &mut [
     requires { ⌜ Holds (now seg) c ⌝ ∗ ⌜ length (now seg) < tooLong ⌝ ∗ ⌜ (32 + 2 ^ 11 ≤ length (now lookup)) × (maxSymbols ≤ length (now sorted)) ⌝ }
     ensures { λ r. ⌜ Received (now (seg .entry)) c (now (lookup .exit)) (now (sorted .exit)) r ⌝ }
 {
-    let received = receive(seg, c);
+    let mut lengths = [0u8; 8192];
+    let received = receive(seg, c, &mut lengths);
     let number = received.refusal;
     let at = received.at;
     let after = received.cursor;
-    let table = received.table;
     if number != 0 {
         return Reached::Refused(number, at);
     }
-    let lengths = table.lengths;
-    let count = table.count as usize;
+    let count = received.count as usize;
     build(&lengths[..count], LOOKED_UP, lookup, sorted);
     Reached::To(after)
 }

@@ -1,6 +1,6 @@
 -- What a run put into the lengths does to them.
 use Prim.Native.Nat.{ℕ, _+_, _-_, _≤_}
-use mathlib.Core.List.{List, _++_}
+use mathlib.Core.List.{List, [], _++_}
 use mathlib.Core.Path.{_≡_, sym, ap, _∙_}
 use native.Mathlib.Omega.{arith}
 use lib.ListN.{length, take, drop, replicate, length-replicate, take-append-drop, replicate-append-replicate}
@@ -36,6 +36,20 @@ module _ (ls : List ℕ) (at n v : ℕ) (room : at + n ≤ length ls) where
 
   pub run-length : length (paste ls at (replicate n v) n) ≡ length ls
   run-length = let e = length-replicate n v in length-paste ls at (replicate n v) n room (omega arith)
+
+-- a run over all the lengths
+pub run-all : (ls : List ℕ) (n v : ℕ) → length ls ≡ n → paste ls 0 (replicate n v) n ≡ replicate n v
+run-all ls n v e =
+    let r = length-replicate n v in
+    let l = run-length ls 0 n v (omega arith) in
+    sym (take-all (0 + n) (paste ls 0 (replicate n v) n) (omega arith)) ∙ run-front ls 0 n v (omega arith)
+
+-- no lengths yet
+pub none-long : {ls : List ℕ} → ls ≡ replicate maxSymbols 0 → length ls ≡ maxSymbols
+none-long e = ap length e ∙ length-replicate {A = ℕ} maxSymbols 0
+
+pub table-none : {ls : List ℕ} → ls ≡ replicate maxSymbols 0 → _≡_ {A = Table} (record { count = 0; lengths = ls }) (tableOf [])
+table-none e = ap (λ (l : List ℕ). record { count = 0; lengths = l }) e
 
 -- at the end: n lengths, and zero beyond them
 pub table-whole : (ls : List ℕ) (n : ℕ) → n ≤ length ls → drop n ls ≡ replicate (maxSymbols - n) 0

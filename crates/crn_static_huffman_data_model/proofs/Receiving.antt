@@ -78,9 +78,9 @@ module _ {seg : List ℕ} (b : ℕ) {c : Cursor} {r : Taken} (t : Takes seg (aNu
   table-failed e = at-mark seg _ (place c) b ∙ number-refused t _ _ e
 
   module _ {count : ℕ} {d : Cursor} (e : r ≡ Value count d) where
-    pub table-none : count ≡ 0 → run (fromBits seg) table (spot (place c) b) ≡ got [] (spot (place d) (place c))
+    pub reads-none : count ≡ 0 → run (fromBits seg) table (spot (place c) b) ≡ got [] (spot (place d) (place c))
     unfolding table
-    table-none h = at-mark seg _ (place c) b ∙ taken-value t _ _ e ∙ simp (eq-eqb _ _ h) (answered _ _ _)
+    reads-none h = at-mark seg _ (place c) b ∙ taken-value t _ _ e ∙ simp (eq-eqb _ _ h) (answered _ _ _)
 
     pub table-many : (count ≡ 0 → ⊥) → maxSymbols < count → run (fromBits seg) table (spot (place c) b) ≡ refused 6 (spot (place c) (place c))
     unfolding table

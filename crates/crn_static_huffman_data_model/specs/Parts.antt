@@ -13,7 +13,7 @@ use Rattle.crn_static_huffman_data_model.specs.declared.Received.{Receiv
 use Rattle.crn_static_huffman_data_model.specs.declared.parts.Run.{Run}
 use Rattle.crn_static_huffman_data_model.specs.declared.parts.Run.the-variants.{Of, Refused}
 use Rattle.crn_static_huffman_data_model.specs.declared.parts.Sent.{Sent}
-use Rattle.crn_static_huffman_data_model.specs.Receiving.{said}
+use Rattle.crn_static_huffman_data_model.specs.Receiving.{said, heldBy}
 
 -- ---- the code of lengths
 
@@ -64,15 +64,15 @@ pub record Runs (seg : List ℕ) (m : Reading (ℕ × ℕ)) (c : Cursor) (b : �
 
 -- the refusal k, which names the bit p, and the cursor `home`
 abbrev pub declined : Cursor → ℕ → ℕ → Received
-declined home k p = record { refusal = k; at = p; cursor = home; table = tableOf [] }
+declined home k p = record { refusal = k; at = p; cursor = home; count = 0 }
 
--- the table with the lengths ls, which ends at p
-pub record Accepts (seg ls : List ℕ) (p : ℕ) (r : Received) : Type 0 where
+-- the table with the lengths ls, which ends at p; `lent` are the lent lengths
+pub record Accepts (seg ls : List ℕ) (p : ℕ) (r : Received) (lent : List ℕ) : Type 0 where
   pub none : r .refusal ≡ 0
   pub after : r .at ≡ p
   pub holds : Holds seg (r .cursor)
   pub there : place (r .cursor) ≡ p
-  pub table : r .table ≡ tableOf ls
+  pub table : heldBy r lent ≡ tableOf ls
 
 -- the refusal k at w, and the cursor `home`
 pub record Declines (home : Cursor) (k : ℕ) (w : Place) (r : Received) : Type 0 where
@@ -80,11 +80,11 @@ pub record Declines (home : Cursor) (k : ℕ) (w : Place) (r : Received) : Type 
   pub names : w ≡ spot (r .at) (r .at)
   pub is : r ≡ declined home k (r .at)
 
--- r tells how a reading of lengths ended
-abbrev pub Tells : List ℕ → Cursor → Step Place (List ℕ) → Received → Type 0
-Tells seg home (got ls w) r = Accepts seg ls (w .at) r
-Tells seg home (refused k w) r = Declines home k w r
+-- r and the lent lengths tell how a reading of lengths ended
+abbrev pub Tells : List ℕ → Cursor → Step Place (List ℕ) → Received → List ℕ → Type 0
+Tells seg home (got ls w) r after = Accepts seg ls (w .at) r after
+Tells seg home (refused k w) r after = Declines home k w r
 
 -- the same of the reading m at the cursor c, whatever is blamed before it
-abbrev pub TellsAt : List ℕ → Reading (List ℕ) → Cursor → Cursor → Received → Type 0
-TellsAt seg m c home r = (b : ℕ) → Tells seg home (run (fromBits seg) m (spot (place c) b)) r
+abbrev pub TellsAt : List ℕ → Reading (List ℕ) → Cursor → Cursor → Received → List ℕ → Type 0
+TellsAt seg m c home r after = (b : ℕ) → Tells seg home (run (fromBits seg) m (spot (place c) b)) r after

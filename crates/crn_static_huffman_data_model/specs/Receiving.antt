@@ -8,6 +8,7 @@ use Rattle.crn_format.specs.Reading.{Step, got, refused, Place, spot, run, from
 use Rattle.crn_format.specs.Tables.{table}
 use Rattle.crn_format.specs.Opening.{tableOf}
 use Rattle.crn_format.specs.Unpacking.{lengthsOf}
+use Rattle.crn_format.specs.declared.Table.{Table}
 use Rattle.crn_symbol_codec.specs.Cursors.{place, Holds}
 use Rattle.crn_symbol_codec.specs.declared.Cursor.{Cursor}
 use Rattle.crn_static_huffman_data_model.specs.declared.Received.{Received}
@@ -16,10 +17,14 @@ use Rattle.crn_static_huffman_data_model.specs.declared.Received.{Receiv
 unfoldable pub said : {A : Type 0} → ℕ → ℕ → A → ℕ → Step Place A
 said k p a b = pick (eqb k 0) (got a (spot p b)) (refused k (spot p p))
 
--- the answer is what reading a table at the cursor's place gives; a refusal hands back the empty table and the cursor as it was
-pub record Receives (seg : List ℕ) (c : Cursor) (r : Received) : Type 0 where
+-- the lent lengths, with the count that was received
+abbrev pub heldBy : Received → List ℕ → Table
+heldBy r lengths = record { count = r .count; lengths = lengths }
+
+-- the answer and the lent lengths are what reading a table at the cursor's place gives; a refusal leaves the empty table and the cursor as it was
+pub record Receives (seg : List ℕ) (c : Cursor) (r : Received) (after : List ℕ) : Type 0 where
   pub blamed : ℕ
-  pub same : (b : ℕ) → run (fromBits seg) table (spot (place c) b) ≡ said (r .refusal) (r .at) (lengthsOf (r .table)) blamed
-  pub whole : r .table ≡ tableOf (lengthsOf (r .table))
+  pub same : (b : ℕ) → run (fromBits seg) table (spot (place c) b) ≡ said (r .refusal) (r .at) (lengthsOf (heldBy r after)) blamed
+  pub whole : heldBy r after ≡ tableOf (lengthsOf (heldBy r after))
   pub goes : r .refusal ≡ 0 → Holds seg (r .cursor) × (place (r .cursor) ≡ r .at)
-  pub stays : (r .refusal ≡ 0 → ⊥) → (r .table ≡ tableOf []) × (r .cursor ≡ c)
+  pub stays : (r .refusal ≡ 0 → ⊥) → (heldBy r after ≡ tableOf []) × (r .cursor ≡ c)

@@ -26,26 +26,46 @@ pub fn ready(seg: &[u8], c: Cursor) -> Cursor
     c
 }
 
-// A symbol, as `crn_symbol_codec::draw` answers. It is looked up where the cursor is ready and the code short enough.
+// A symbol, as `crn_symbol_codec::draw` answers, to which the cursor goes part by part, so that a loop need not keep it in memory. It is looked up where the cursor is ready and the code short enough.
 pub fn draw(lookup: &[u32], sorted: &[u16], seg: &[u8], c: Cursor) -> Taken
     requires { ⌜ Holds (now seg) c ⌝ ∗ ⌜ Usable (now lookup) (now sorted) ⌝ }
     ensures { λ r. ⌜ ((ls : List ℕ) → Decodes ls (now (lookup .entry)) (now (sorted .entry)) → Takes (now (seg .entry)) (aSymbol ls) c r) ⌝ }
 {
     if c.have < 16 {
-        return crn_symbol_codec::draw(lookup, sorted, seg, c);
+        return crn_symbol_codec::draw(
+            lookup,
+            sorted,
+            seg,
+            Cursor {
+                bits: c.bits,
+                have: c.have,
+                next: c.next,
+            },
+        );
     }
     let width = lookup[0] as u64;
     let i = (c.bits >> (64 - width)) as usize;
     let e = lookup[32 + i];
     if e == 0 {
-        return crn_symbol_codec::draw(lookup, sorted, seg, c);
+        return crn_symbol_codec::draw(
+            lookup,
+            sorted,
+            seg,
+            Cursor {
+                bits: c.bits,
+                have: c.have,
+                next: c.next,
+            },
+        );
     }
     let l = (e % 32) as u64;
+    let bits = c.bits << l;
+    let have = c.have - l;
     Taken::Value(
         e / 32,
         Cursor {
-            bits: c.bits << l,
-            have: c.have - l,
+            bits,
+            have,
             next: c.next,
         },
     )

@@ -6,7 +6,7 @@ ghost use lib.ListN.{length, replicate};
 ghost use lib.Seq.{paste};
 ghost use Rattle.crn_format.specs.Limits.{maxSymbols, tooLong};
 ghost use Rattle.crn_format.specs.Reading.{spot, run, fromBits};
-ghost use Rattle.crn_format.specs.Tables.{runOf, coded, counted};
+ghost use Rattle.crn_format.specs.Tables.{runOf, coded, counted, table};
 ghost use Rattle.crn_symbol_codec.specs.Cursors.{place as «placeOf», Holds};
 ghost use Rattle.crn_symbol_codec.specs.Decoders.{Decodes};
 ghost use Rattle.crn_static_huffman_data_model.specs.Parts.{Sends, zeroRun, lastRun, drawnRun, allRuns, Runs, SomeCode, declined, Tells, TellsAt};
@@ -15,7 +15,6 @@ use crate::build;
 use crate::drawing::draw;
 use crate::drawing::ready;
 use crate::is_code;
-use crn_format::Table;
 use crn_symbol_codec::Cursor;
 use crn_symbol_codec::Taken;
 use crn_symbol_codec::number;
@@ -36,7 +35,7 @@ enum Run {
 }
 
 // A refusal that names the bit at a cursor. The cursor `home` is handed back.
-pub fn refused(seg: &[u8], number: u32, at: Cursor, home: Cursor) -> Received
+fn refused(seg: &[u8], number: u32, at: Cursor, home: Cursor) -> Received
     requires { ⌜ Holds (now seg) at ⌝ ∗ ⌜ length (now seg) < tooLong ⌝ }
     ensures { λ r. ⌜ r ≡ declined home number («placeOf» at) ⌝ }
 {
@@ -44,10 +43,7 @@ pub fn refused(seg: &[u8], number: u32, at: Cursor, home: Cursor) -> Received
         refusal: number,
         at: place(seg, at),
         cursor: home,
-        table: Table {
-            count: 0,
-            lengths: [0; 8192],
-        },
+        count: 0,
     }
 }
 
@@ -129,11 +125,22 @@ fn put_run(lengths: &mut [u8], at: usize, count: usize, v: u8)
     requires { ⌜ at + count ≤ length (now lengths) ⌝ }
     ensures { λ _. ⌜ now (lengths .exit) ≡ paste (now (lengths .entry)) at (replicate count v) count ⌝ }
 {
+    if count == 1 {
+        lengths[at] = v; // most runs are of one, for which a loop is dear
+        return;
+    }
     let mut j: usize = 0;
     while j < count {
         lengths[at + j] = v;
         j += 1;
     }
+}
+
+// No lengths.
+pub fn clear(lengths: &mut [u8; 8192])
+    ensures { λ _. ⌜ now (lengths .exit) ≡ replicate maxSymbols 0 ⌝ }
+{
+    put_run(lengths, 0, 8192, 0);
 }
 
 // The run that begins at c, in the code of a decoder table.
@@ -157,11 +164,11 @@ fn table_by_runs(
     c: Cursor,
     count: usize,
     home: Cursor,
+    lengths: &mut [u8],
 ) -> Received
-    requires { ⌜ Holds (now seg) c ⌝ ∗ ⌜ length (now seg) < tooLong ⌝ ∗ ⌜ count ≤ maxSymbols ⌝ ∗ ⌜ SomeCode (now lookup) (now sorted) ⌝ }
-    ensures { λ r. ⌜ ((cl : List ℕ) → Decodes cl (now (lookup .entry)) (now (sorted .entry)) → Tells (now (seg .entry)) home (run (fromBits (now (seg .entry))) (allRuns cl count) (spot («placeOf» c) («placeOf» c))) r) ⌝ }
+    requires { ⌜ Holds (now seg) c ⌝ ∗ ⌜ length (now seg) < tooLong ⌝ ∗ ⌜ count ≤ maxSymbols ⌝ ∗ ⌜ SomeCode (now lookup) (now sorted) ⌝ ∗ ⌜ now lengths ≡ replicate maxSymbols 0 ⌝ }
+    ensures { λ r. ⌜ ((cl : List ℕ) → Decodes cl (now (lookup .entry)) (now (sorted .entry)) → Tells (now (seg .entry)) home (run (fromBits (now (seg .entry))) (allRuns cl count) (spot («placeOf» c) («placeOf» c))) r (now (lengths .exit))) ⌝ }
 {
-    let mut lengths = [0u8; 8192];
     let mut done: usize = 0;
     let mut last: u8 = 0;
     let mut at = c;
@@ -171,7 +178,7 @@ fn table_by_runs(
                 if count - done < n {
                     return refused(seg, 6, at, home);
                 }
-                put_run(&mut lengths, done, n, v);
+                put_run(lengths, done, n, v);
                 done += n;
                 last = v;
                 at = d;
@@ -188,17 +195,21 @@ fn table_by_runs(
         refusal: 0,
         at: place(seg, at),
         cursor: at,
-        table: Table {
-            count: count as u32,
-            lengths,
-        },
+        count: count as u32,
     }
 }
 
 // A table of `count` symbols, from the n lengths of the code of lengths on.
-fn coded_table(seg: &[u8], c: Cursor, count: usize, n: usize, home: Cursor) -> Received
-    requires { ⌜ Holds (now seg) c ⌝ ∗ ⌜ length (now seg) < tooLong ⌝ ∗ ⌜ (count ≤ maxSymbols) × (n ≤ 21) ⌝ }
-    ensures { λ r. ⌜ TellsAt (now (seg .entry)) (coded count n) c home r ⌝ }
+fn coded_table(
+    seg: &[u8],
+    c: Cursor,
+    count: usize,
+    n: usize,
+    home: Cursor,
+    out: &mut [u8],
+) -> Received
+    requires { ⌜ Holds (now seg) c ⌝ ∗ ⌜ length (now seg) < tooLong ⌝ ∗ ⌜ (count ≤ maxSymbols) × (n ≤ 21) ⌝ ∗ ⌜ now out ≡ replicate maxSymbols 0 ⌝ }
+    ensures { λ r. ⌜ TellsAt (now (seg .entry)) (coded count n) c home r (now (out .exit)) ⌝ }
 {
     let sent = sent_lengths(seg, c, n);
     let refusal = sent.refusal;
@@ -213,13 +224,19 @@ fn coded_table(seg: &[u8], c: Cursor, count: usize, n: usize, home: Cursor) -> R
     let mut lookup = [0u32; 160];
     let mut sorted = [0u16; 21];
     build(&lengths, 7, &mut lookup, &mut sorted);
-    table_by_runs(&lookup, &sorted, seg, at, count, home)
+    table_by_runs(&lookup, &sorted, seg, at, count, home, out)
 }
 
 // A table of `count` symbols, from the number of lengths of the code of lengths on.
-pub fn counted_table(seg: &[u8], c: Cursor, count: usize, home: Cursor) -> Received
-    requires { ⌜ Holds (now seg) c ⌝ ∗ ⌜ length (now seg) < tooLong ⌝ ∗ ⌜ count ≤ maxSymbols ⌝ }
-    ensures { λ r. ⌜ TellsAt (now (seg .entry)) (counted count) c home r ⌝ }
+fn counted_table(
+    seg: &[u8],
+    c: Cursor,
+    count: usize,
+    home: Cursor,
+    out: &mut [u8],
+) -> Received
+    requires { ⌜ Holds (now seg) c ⌝ ∗ ⌜ length (now seg) < tooLong ⌝ ∗ ⌜ count ≤ maxSymbols ⌝ ∗ ⌜ now out ≡ replicate maxSymbols 0 ⌝ }
+    ensures { λ r. ⌜ TellsAt (now (seg .entry)) (counted count) c home r (now (out .exit)) ⌝ }
 {
     let Taken::Value(n, d) = number(seg, c, 5) else {
         return refused(seg, 8, c, home);
@@ -230,5 +247,27 @@ pub fn counted_table(seg: &[u8], c: Cursor, count: usize, home: Cursor) -> Recei
     if 21 < n {
         return refused(seg, 6, c, home);
     }
-    coded_table(seg, d, count, n as usize, home)
+    coded_table(seg, d, count, n as usize, home, out)
+}
+
+// A table, from its count of symbols on.
+pub fn sent_table(seg: &[u8], c: Cursor, out: &mut [u8]) -> Received
+    requires { ⌜ Holds (now seg) c ⌝ ∗ ⌜ length (now seg) < tooLong ⌝ ∗ ⌜ now out ≡ replicate maxSymbols 0 ⌝ }
+    ensures { λ r. ⌜ TellsAt (now (seg .entry)) table c c r (now (out .exit)) ⌝ }
+{
+    let Taken::Value(count, d) = number(seg, c, 14) else {
+        return refused(seg, 8, c, c);
+    };
+    if count == 0 {
+        return Received {
+            refusal: 0,
+            at: place(seg, d),
+            cursor: d,
+            count: 0,
+        };
+    }
+    if 8192 < count {
+        return refused(seg, 6, c, c);
+    }
+    counted_table(seg, d, count as usize, c, out)
 }

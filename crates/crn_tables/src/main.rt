@@ -100,11 +100,15 @@ fn table(seg: &[u8], c: Cursor) -> State
     requires { ⌜ Holds (now seg) c ⌝ ∗ ⌜ length (now seg) < tooLong ⌝ }
     ensures { λ r. ⌜ Holds (now (seg .entry)) (r .cursor) ⌝ }
 {
-    let r = crn_static_huffman_data_model::receive(seg, c);
+    let mut t = Table {
+        count: 0,
+        lengths: [0; 8192],
+    };
+    let r = crn_static_huffman_data_model::receive(seg, c, &mut t.lengths);
     let k = r.refusal;
     let at = r.at;
     let d = r.cursor;
-    let t = r.table;
+    t.count = r.count;
     text(b"table");
     part(k as u64);
     part(at as u64);

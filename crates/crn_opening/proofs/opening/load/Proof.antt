@@ -1,7 +1,8 @@
 -- The streams: the tables, then the palettes.
+use mathlib.Core.Path.{refl}
 use native.Mathlib.Omega.{arith}
 use Rattle.crn_opening.proofs.Checks.{file-short, tables-inside}
-use Rattle.crn_opening.proofs.Opens.{shut-by-tables, shut-by-palettes, streams-read}
+use Rattle.crn_opening.proofs.Opens.{shut-by-tables, shut-by-palettes, streams-told}
 use borrow.Author.Needs.{needs}
 use Rattle.crn_opening.proofs.opening.load.Statement.{statement}
 use Rattle.crn_opening.proofs.opening.load.Tie as tie
@@ -10,7 +11,7 @@ segment-requires : tie.Need-segment-requires
 segment-requires c κs = tables-inside (c .before .before .before .before .before .pre)
 
 read-tables-requires : tie.Need-read-tables-requires
-read-tables-requires c κs = omega (arith, c .segment .ensures .1, file-short (c .before .before .before .before .before .before .pre))
+read-tables-requires c κs = (omega (arith, c .before .before .before .before .before .segment .ensures .1, file-short (c .before .before .before .before .before .before .before .before .before .before .before .pre)), (refl, refl, refl, refl, refl))
 
 clear-requires : tie.Need-clear-requires
 clear-requires c κs = search needs
@@ -31,10 +32,12 @@ same-length-4 : tie.Need-same-length-4
 same-length-4 c = search needs
 
 returns : tie.Need-returns
-returns c = shut-by-tables _ _ _ (rw (c .before .before .before .before .before .before .before .before .before .before .before .before .before .before .before .before .before .segment .ensures .0) at (c .before .before .before .before .before .before .before .before .before .before .before .before .before .before .before .before .read-tables .ensures)) (c .before .before .before .before .before .before .before .before .before .before .before .before .before .before .if1 .taken) (c .before .before .before .before .before .before .before .before .before .clear .ensures) (c .refused .ensures)
+returns c =
+    shut-by-tables _ _ _ (rw (c .before .before .before .before .before .before .before .before .before .before .before .before .before .before .before .before .before .before .before .before .before .before .segment .ensures .0) at (c .before .before .before .before .before .before .before .before .before .before .before .before .before .before .before .before .read-tables .ensures)) (c .before .before .before .before .before .before .before .before .before .before .before .before .before .before .if1 .taken) (c .before .before .before .before .before .before .before .before .before .clear .ensures)
+    (c .refused .ensures)
 
 read-palettes-requires : tie.Need-read-palettes-requires
-read-palettes-requires c κs = search needs
+read-palettes-requires c κs = c .before .before .before .before .before .before .before .before .before .before .before .before .before .before .before .before .before .before .pre
 
 clear-requires-2 : tie.Need-clear-requires-2
 clear-requires-2 c κs = search needs
@@ -56,7 +59,7 @@ same-length-8 c = omega (arith, c .before .before .alpha-selectors3 .given, c .b
 
 returns-2 : tie.Need-returns-2
 returns-2 c =
-    shut-by-palettes _ _ _ (rw (c .before .before .before .before .before .before .before .before .before .before .before .before .before .before .before .before .before .before .before .before .before .before .before .before .before .before .before .before .before .before .before .before .segment .ensures .0) at (c .before .before .before .before .before .before .before .before .before .before .before .before .before .before .before .before .before .before .before .before .before .before .before .before .before .before .before .before .before .before .before .read-tables .ensures)) (c .before .before .before .before .before .before .before .before .before .before .before .before .before .before .before .before .before .before .before .before .before .before .before .before .before .before .before .before .before .if1 .left) (c .before .before .before .before .before .before .before .before .before .before .before .before .before .before .before .before .before .before .before .before .before .before .before .before .read-palettes .ensures)
+    shut-by-palettes _ _ _ (rw (c .before .before .before .before .before .before .before .before .before .before .before .before .before .before .before .before .before .before .before .before .before .before .before .before .before .before .before .before .before .before .before .before .before .before .before .before .before .segment .ensures .0) at (c .before .before .before .before .before .before .before .before .before .before .before .before .before .before .before .before .before .before .before .before .before .before .before .before .before .before .before .before .before .before .before .read-tables .ensures)) (c .before .before .before .before .before .before .before .before .before .before .before .before .before .before .before .before .before .before .before .before .before .before .before .before .before .before .before .before .before .if1 .left) (c .before .before .before .before .before .before .before .before .before .before .before .before .before .before .before .before .before .before .before .before .before .before .before .before .read-palettes .ensures)
     (c .before .before .before .before .before .before .before .before .before .before .before .before .before .before .if2 .taken) (c .before .before .before .before .before .before .before .before .before .clear2 .ensures) (same-length-5 c) (same-length-6 c) (same-length-7 c) (same-length-8 c) (c .refused2 .ensures)
 
 same-length-9 : tie.Need-same-length-9
@@ -72,7 +75,9 @@ same-length-12 : tie.Need-same-length-12
 same-length-12 c = search needs
 
 returns-3 : tie.Need-returns-3
-returns-3 c = streams-read _ _ _ (rw (c .before .before .before .before .before .before .before .before .before .before .before .before .before .before .before .before .before .before .before .segment .ensures .0) at (c .before .before .before .before .before .before .before .before .before .before .before .before .before .before .before .before .before .before .read-tables .ensures)) (c .before .before .before .before .before .before .before .before .before .before .before .before .before .before .before .before .if1 .left) (c .before .before .before .before .before .before .before .before .before .before .before .read-palettes .ensures) (c .before .if2 .left)
+returns-3 c =
+    streams-told _ _ _ (c .before .before .before .before .before .before .before .before .before .before .before .before .before .before .before .before .before .read-tables .result) _ _ _ _ _ (rw (c .before .before .before .before .before .before .before .before .before .before .before .before .before .before .before .before .before .before .before .before .before .before .before .segment .ensures .0) at (c .before .before .before .before .before .before .before .before .before .before .before .before .before .before .before .before .before .read-tables .ensures)) (c .before .before .before .before .before .before .before .before .before .before .before .before .before .before .before .if1 .left)
+    (c .before .before .before .before .before .before .before .before .before .before .read-palettes .ensures) (c .if2 .left)
 
 pub load-spec : {M : Type 1} → statement M
 load-spec =

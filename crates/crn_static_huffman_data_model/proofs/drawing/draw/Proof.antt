@@ -53,11 +53,11 @@ returns-2 c = search needs
 cast-l : tie.Need-cast-l
 cast-l c = search needs
 
-shl-t13 : tie.Need-shl-t13
-shl-t13 c = search needs
+shl-bits : tie.Need-shl-bits
+shl-bits c = search needs
 
-sub-t12 : tie.Need-sub-t12
-sub-t12 c =
+sub-have : tie.Need-sub-have
+sub-have c =
     let st = c .before .before .before .before .before .before .before .before .before .before .before in
     let some : Enough (st .args .seg .now) (st .args .c) 16 = λ few. omega (arith, c .before .before .before .before .before .before .if1 .left) in
     omega (arith, entry-length (st .pre .0) some (st .pre .1) _ refl (c .before .before .if2 .left), st .pre .1 .few, c .before .before .before .before .before .before .if1 .left)
@@ -86,6 +86,6 @@ draw-spec =
     draw-requires-2
     returns-2
     cast-l
-    shl-t13
-    sub-t12
+    shl-bits
+    sub-have
     returns-3)

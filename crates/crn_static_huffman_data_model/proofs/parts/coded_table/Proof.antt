@@ -19,7 +19,7 @@ returns : tie.Need-returns
 returns c =
     let sent = c .before .before .before .before .sent-lengths .ensures in
     λ b.
-    tells-declined _ _ (coded-refused _ _ _ _ (sent .same b ∙ said-refused _ _ _ _ (c .before .if1 .taken))) (omega arith) (c .refused .ensures)
+    tells-declined _ _ _ (coded-refused _ _ _ _ (sent .same b ∙ said-refused _ _ _ _ (c .before .if1 .taken))) (omega arith) (c .refused .ensures)
 
 slice-aggregate-is-code : tie.Need-slice-aggregate-is-code
 slice-aggregate-is-code c = search needs
@@ -34,7 +34,7 @@ returns-2 : tie.Need-returns-2
 returns-2 c =
     let sent = c .before .before .before .before .before .before .before .sent-lengths .ensures in
     let bad = sym (c .before .before .is-code .ensures) ∙ not-true _ (c .before .if2 .taken) in
-    λ b. tells-declined _ _ (coded-bad _ _ _ _ (sent .same b ∙ said-got _ _ _ _ (c .before .before .before .before .if1 .left)) bad) (omega arith) (c .refused2 .ensures)
+    λ b. tells-declined _ _ _ (coded-bad _ _ _ _ (sent .same b ∙ said-got _ _ _ _ (c .before .before .before .before .if1 .left)) bad) (omega arith) (c .refused2 .ensures)
 
 slice-aggregate-build : tie.Need-slice-aggregate-build
 slice-aggregate-build c = search needs
@@ -57,15 +57,18 @@ slice-aggregate-table-by-runs-2 : tie.Need-slice-aggregate-table-by-runs-2
 slice-aggregate-table-by-runs-2 c = search needs
 
 table-by-runs-requires : tie.Need-table-by-runs-requires
-table-by-runs-requires c κs = search needs
+table-by-runs-requires c κs = (search needs, (search needs, (search needs, (search needs, c .before .before .before .before .before .before .before .before .before .before .before .before .before .before .before .before .before .before .pre .1 .1 .1))))
+
+same-length : tie.Need-same-length
+same-length c = search needs
 
 returns-3 : tie.Need-returns-3
 returns-3 c =
-    let tested = c .before .before .before .before .before .before .before .before .before in
+    let tested = c .before .before .before .before .before .before .before .before .before .before .before .before in
     let sent = tested .before .before .before .before .before .before .sent-lengths .ensures in
     let good = sym (tested .before .is-code .ensures) ∙ not-false _ (tested .if2 .left) in
-    let runs = c .table-by-runs .ensures _ (c .before .before .before .before .before .build .ensures) in
-    λ b. tells-same _ _ _ (coded-good _ _ _ _ (sent .same b ∙ said-got _ _ _ _ (tested .before .before .before .if1 .left)) good) runs
+    let runs = c .before .before .table-by-runs .ensures _ (c .before .before .before .before .before .before .before .before .build .ensures) in
+    λ b. tells-same _ _ _ _ (coded-good _ _ _ _ (sent .same b ∙ said-got _ _ _ _ (tested .before .before .before .if1 .left)) good) runs
 
 pub coded-table-spec : {M : Type 1} → statement M
 coded-table-spec =
@@ -85,4 +88,5 @@ coded-table-spec =
     slice-aggregate-table-by-runs
     slice-aggregate-table-by-runs-2
     table-by-runs-requires
+    same-length
     returns-3)
