@@ -159,3 +159,16 @@ fn a_command_that_makes_no_sense_is_told() {
     let (status, out, _) = told(crn(&["help"]));
     assert!(status == 0 && out.starts_with("crn: what CRN files"));
 }
+
+#[test]
+fn a_files_name_may_be_any_bytes() {
+    use std::os::unix::ffi::OsStrExt;
+    let room = room("names");
+    let name = room.join(std::ffi::OsStr::from_bytes(b"a\xffb.crn"));
+    std::fs::write(&name, sample("dxn.crn")).unwrap();
+    for words in [&["info"][..], &["check"], &["unpack", "--level", "0", "--out", room.to_str().unwrap()]] {
+        let run = Command::new(env!("CARGO_BIN_EXE_crn")).args(words).arg(&name).output().unwrap();
+        assert_eq!(told(run).0, 0, "{words:?}");
+    }
+    assert!(room.join(std::ffi::OsStr::from_bytes(b"a\xffb-level0.dxn")).exists());
+}

@@ -2,6 +2,7 @@
 use crate::{files, say, Failure};
 use crunch_proved::{Crn, Refusal};
 use std::collections::BTreeMap;
+use std::ffi::OsString;
 use std::io::{IsTerminal, Write};
 use std::path::{Path, PathBuf};
 use std::sync::atomic::{AtomicUsize, Ordering};
@@ -25,10 +26,10 @@ enum Fault {
     Trouble(String),
 }
 
-pub fn run(words: &[String]) -> Result<(), Failure> {
-    let (options, names): (Vec<_>, Vec<_>) = words.iter().cloned().partition(|w| w.starts_with("--"));
+pub fn run(words: &[OsString]) -> Result<(), Failure> {
+    let (options, names): (Vec<_>, Vec<_>) = words.iter().cloned().partition(say::option);
     if let Some(option) = options.iter().find(|o| *o != "--json") {
-        return Err(Failure::Usage(format!("`crn check` has no option '{option}'")));
+        return Err(Failure::Usage(format!("`crn check` has no option '{}'", option.display())));
     }
     if names.is_empty() {
         return Err(Failure::Usage("`crn check` needs a file or a folder".into()));

@@ -1,4 +1,5 @@
 //! Files: read whole, written whole or not at all, and found below folders.
+use std::ffi::OsString;
 use std::fs::{self, File};
 use std::io::{Error, ErrorKind, Write};
 use std::path::{Path, PathBuf};
@@ -43,8 +44,10 @@ impl Whole {
     }
 
     pub fn write(&mut self, path: &Path, bytes: &[u8]) -> Result<(), Error> {
-        let name = path.file_name().unwrap_or_default().to_string_lossy();
-        let part = path.with_file_name(format!(".{name}.{}.part", std::process::id()));
+        let mut name = OsString::from(".");
+        name.push(path.file_name().unwrap_or_default());
+        name.push(format!(".{}.part", std::process::id()));
+        let part = path.with_file_name(name);
         self.waiting.push((part.clone(), path.to_path_buf()));
         let mut file = File::create(&part)?;
         file.write_all(bytes)?;
@@ -69,7 +72,7 @@ impl Drop for Whole {
 }
 
 /// The files to look at: those named, and those below the folders named whose names end in `.crn`, in order. A folder that can't be read, or has none, is told.
-pub fn found(words: &[String]) -> Vec<(PathBuf, Option<String>)> {
+pub fn found(words: &[OsString]) -> Vec<(PathBuf, Option<String>)> {
     let mut out = Vec::new();
     for word in words {
         let path = PathBuf::from(word);

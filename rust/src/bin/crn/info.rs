@@ -1,25 +1,27 @@
 //! `crn info`: a table for each file.
 use crate::{files, say, Failure};
 use crunch_proved::{Crn, Refusal};
+use std::ffi::OsString;
 use std::path::Path;
 
-pub fn run(words: &[String]) -> Result<(), Failure> {
-    if let Some(option) = words.iter().find(|w| w.starts_with("--")) {
-        return Err(Failure::Usage(format!("`crn info` has no option '{option}'")));
+pub fn run(words: &[OsString]) -> Result<(), Failure> {
+    if let Some(option) = words.iter().find(|w| say::option(w)) {
+        return Err(Failure::Usage(format!("`crn info` has no option '{}'", option.display())));
     }
     if words.is_empty() {
         return Err(Failure::Usage("`crn info` needs a file".into()));
     }
     let mut all = true;
     for (n, word) in words.iter().enumerate() {
-        let told = files::read(Path::new(word)).and_then(|file| about(word, &file).map_err(|refusal| refusal.to_string()));
+        let name = word.to_string_lossy();
+        let told = files::read(Path::new(word)).and_then(|file| about(&name, &file).map_err(|refusal| refusal.to_string()));
         match told {
             Ok((text, whole)) => {
                 say::all(&format!("{}{text}", if n > 0 { "\n" } else { "" }))?;
                 all &= whole;
             }
             Err(why) => {
-                eprintln!("crn: {word}: {why}");
+                eprintln!("crn: {name}: {why}");
                 all = false;
             }
         }

@@ -7,6 +7,7 @@ mod info;
 mod say;
 mod unpack;
 
+use std::ffi::OsString;
 use std::process::ExitCode;
 
 const USAGE: &str = "\
@@ -39,11 +40,11 @@ impl From<std::io::Error> for Failure {
     }
 }
 
-fn run(words: &[String]) -> Result<(), Failure> {
+fn run(words: &[OsString]) -> Result<(), Failure> {
     let Some((command, words)) = words.split_first() else {
         return Err(Failure::Usage("it needs a command".into()));
     };
-    match command.as_str() {
+    match command.to_string_lossy().as_ref() {
         "info" => info::run(words),
         "unpack" => unpack::run(words),
         "check" => check::run(words),
@@ -54,7 +55,7 @@ fn run(words: &[String]) -> Result<(), Failure> {
 }
 
 fn main() -> ExitCode {
-    let words: Vec<String> = std::env::args_os().skip(1).map(|w| w.to_string_lossy().into_owned()).collect();
+    let words: Vec<OsString> = std::env::args_os().skip(1).collect();
     match run(&words) {
         Ok(()) => ExitCode::SUCCESS,
         Err(Failure::Said) => ExitCode::FAILURE,

@@ -1,4 +1,5 @@
 //! What is written for people: numbers, columns, standard output.
+use std::ffi::OsString;
 use std::io::Write;
 
 /// Writes a whole text to standard output, or says that it could not.
@@ -6,6 +7,11 @@ pub fn all(text: &str) -> std::io::Result<()> {
     let mut out = std::io::stdout().lock();
     out.write_all(text.as_bytes())?;
     out.flush()
+}
+
+/// Whether a word is an option, and no name of a file.
+pub fn option(word: &OsString) -> bool {
+    word.as_encoded_bytes().starts_with(b"--")
 }
 
 /// A number with a comma after each three digits.
