@@ -16,7 +16,7 @@ use Rattle.crn_symbol_codec.specs.Drawing.{drew}
 use Rattle.crn_symbol_codec.specs.declared.Cursor.{Cursor}
 use Rattle.crn_symbol_codec.specs.declared.Taken.{Taken}
 use Rattle.crn_static_huffman_data_model.specs.declared.Received.{Received}
-use Rattle.crn_static_huffman_data_model.specs.Receiving.{said, Receives}
+use Rattle.crn_static_huffman_data_model.specs.Receiving.{said, heldBy, Receives}
 use Rattle.crn_static_huffman_data_model.proofs.receive.Reads as receive
 use Rattle.crn_static_huffman_data_model.proofs.build.Reads as build
 use Rattle.crn_static_huffman_data_model.proofs.draw.Reads as draw
@@ -25,33 +25,33 @@ use Rattle.crn_laws_results.specs.Seen.{receivedSeen}
 use Rattle.crn_laws_results.proofs.Steps.{got-tells, refused-tells, got-or-refused}
 use Rattle.crn_laws_results.proofs.Cursors.{takes-settled}
 
-module _ {seg : List ℕ} {c : Cursor} {r s : Received} (p : Receives seg c r) (q : Receives seg c s) where
-  steps : said (r .refusal) (r .at) (lengthsOf (r .table)) (p .blamed) ≡ said (s .refusal) (s .at) (lengthsOf (s .table)) (q .blamed)
+module _ {seg : List ℕ} {c : Cursor} {r s : Received} {d e : List ℕ} (p : Receives seg c r d) (q : Receives seg c s e) where
+  steps : said (r .refusal) (r .at) (lengthsOf (heldBy r d)) (p .blamed) ≡ said (s .refusal) (s .at) (lengthsOf (heldBy s e)) (q .blamed)
   steps = sym (p .same 0) ∙ q .same 0
 
   by : (a b : Bool) → eqb (r .refusal) 0 ≡ a → eqb (s .refusal) 0 ≡ b
-      → pick a (got (lengthsOf (r .table)) (spot (r .at) (p .blamed))) (refused (r .refusal) (spot (r .at) (r .at)))
-      ≡ pick b (got (lengthsOf (s .table)) (spot (s .at) (q .blamed))) (refused (s .refusal) (spot (s .at) (s .at)))
-      → receivedSeen r ≡ receivedSeen s
-  by true true e f h =
+      → pick a (got (lengthsOf (heldBy r d)) (spot (r .at) (p .blamed))) (refused (r .refusal) (spot (r .at) (r .at)))
+      ≡ pick b (got (lengthsOf (heldBy s e)) (spot (s .at) (q .blamed))) (refused (s .refusal) (spot (s .at) (s .at)))
+      → receivedSeen r d ≡ receivedSeen s e
+  by true true y n h =
       let both = got-tells h in
-      let zero : r .refusal ≡ s .refusal = alike (eqb-true _ _ e) (eqb-true _ _ f) in
+      let zero : r .refusal ≡ s .refusal = alike (eqb-true _ _ y) (eqb-true _ _ n) in
       let at : r .at ≡ s .at = ap (λ (x : Place). x .at) (both .1) in
-      let table : r .table ≡ s .table = p .whole ∙ ap tableOf (both .0) ∙ sym (q .whole) in
-      let here : place (r .cursor) ≡ place (s .cursor) = p .goes (eqb-true _ _ e) .1 ∙ at ∙ sym (q .goes (eqb-true _ _ f) .1) in
+      let table : heldBy r d ≡ heldBy s e = p .whole ∙ ap tableOf (both .0) ∙ sym (q .whole) in
+      let here : place (r .cursor) ≡ place (s .cursor) = p .goes (eqb-true _ _ y) .1 ∙ at ∙ sym (q .goes (eqb-true _ _ n) .1) in
       λ i. record { refusal = zero i; at = at i; table = table i; place = here i }
-  by true false e f h = absurd (got-or-refused h)
-  by false true e f h = absurd (got-or-refused (sym h))
-  by false false e f h =
+  by true false y n h = absurd (got-or-refused h)
+  by false true y n h = absurd (got-or-refused (sym h))
+  by false false y n h =
       let both = refused-tells h in
-      let one = p .stays (eqb-false _ _ e) in
-      let other = q .stays (eqb-false _ _ f) in
+      let one = p .stays (eqb-false _ _ y) in
+      let other = q .stays (eqb-false _ _ n) in
       λ i. record { refusal = both .0 i; at = both .1 i .at; table = alike (one .0) (other .0) i; place = place (alike (one .1) (other .1) i) }
 
-  receives-settled : receivedSeen r ≡ receivedSeen s
+  receives-settled : receivedSeen r d ≡ receivedSeen s e
   receives-settled = by (eqb (r .refusal) 0) (eqb (s .refusal) 0) refl refl (unfold said in steps)
 
-pub receive-settled : Settled receive.Post (λ a r e. receivedSeen r)
+pub receive-settled : Settled receive.Post (λ a r (seg, (c, (lengths, _))). receivedSeen r (now lengths))
 receive-settled _ _ _ _ _ _ _ p q = receives-settled p q
 
 -- ---- two tables that were built of the same lengths: whatever a draw from the one gives, a draw from the other gives. Of what `build` was given and

@@ -9,6 +9,7 @@ use Rattle.crn_format.specs.Grid.{painted, blank}
 use Rattle.crn_format.specs.declared.Table.{Table}
 use Rattle.crn_format.specs.declared.Grid.{Grid}
 use Rattle.crn_symbol_codec.specs.Cursors.{place}
+use Rattle.crn_static_huffman_data_model.specs.Receiving.{heldBy}
 use Rattle.crn_static_huffman_data_model.specs.declared.Received.{Received}
 use Rattle.crn_chunks.specs.Meaning.{spending, stopped, runningOf}
 use Rattle.crn_unpacker.specs.declared.Went.{Went}
@@ -21,8 +22,8 @@ pub record ReceivedSeen : Type 0 where
   pub table : Table
   pub place : ℕ
 
-abbrev pub receivedSeen : Received → ReceivedSeen
-receivedSeen r = record { refusal = r .refusal; at = r .at; table = r .table; place = place (r .cursor) }
+abbrev pub receivedSeen : Received → List ℕ → ReceivedSeen
+receivedSeen r lengths = record { refusal = r .refusal; at = r .at; table = heldBy r lengths; place = place (r .cursor) }
 
 -- of a level's chunks: what is carried on from the last, with the place after it and the budget that is left; or the refusal
 abbrev pub went : Bool → Went → Step Spending Running
