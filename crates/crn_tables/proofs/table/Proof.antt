@@ -1,10 +1,11 @@
 -- `table`: the next cursor holds, by what receiving ensures.
+use mathlib.Core.Path.{refl}
 use borrow.Author.Needs.{needs}
 use Rattle.crn_tables.proofs.table.Statement.{statement}
 use Rattle.crn_tables.proofs.table.Tie as tie
 
 receive-requires : tie.Need-receive-requires
-receive-requires c κs = search needs
+receive-requires c κs = (search needs, (search needs, refl))
 
 slice-aggregate-text : tie.Need-slice-aggregate-text
 slice-aggregate-text c = search needs
@@ -43,7 +44,7 @@ last-hash-requires : tie.Need-last-hash-requires
 last-hash-requires c κs = search needs
 
 returns-2 : tie.Need-returns-2
-returns-2 c = c .before .before .before .before .before .before .before .before .before .before .before .receive .ensures .goes (c .before .before .before .before .if1 .left) .0
+returns-2 c = c .before .before .before .before .before .before .before .before .before .receive .ensures .goes (c .before .before .before .if1 .left) .0
 
 pub table-spec : {M : Type 1} → statement M
 table-spec =
