@@ -1,13 +1,13 @@
 -- Tables that hold make codes: each symbol with a code can be written in it.
 use Prim.Native.Nat.{ℕ, _<_}
 use mathlib.Core.Path.{_≡_, refl}
-use mathlib.Core.Bool.{Bool, true, false, false≢true}
+use mathlib.Core.Bool.{Bool, true, false}
 use mathlib.Core.List.{List, [], _∷_, _++_}
 use native.Mathlib.Omega.{arith}
 use lib.ListN.{length, take}
 use lib.Dec.{leb, eqb, ltb}
 use borrow.Author.Tests.{leb-true, eqb-true}
-use Rattle.crn_format.specs.Choice.{both, either}
+use Rattle.crn_format.specs.Choice.{either}
 use Rattle.crn_format.specs.Limits.{allRoom, maxSymbols}
 use Rattle.crn_format.specs.Codes.{room, allFit, longest, isCode}
 use Rattle.crn_format.specs.Reading.{aSymbol}
@@ -17,6 +17,7 @@ use Rattle.crn_format.specs.Level.{Plane}
 use Rattle.crn_format.specs.Unpacking.{lengthsOf, tableHolds, tablesHold, perPlane, planesOf}
 use Rattle.crn_format.specs.declared.Table.{Table}
 use Rattle.crn_format.specs.declared.Record.{Record}
+use Rattle.crn_format.proofs.Choices.{both-hold}
 use Rattle.crn_format.proofs.Kraft.{codes-fit, code-fits}
 use Rattle.crn_static_huffman_data_model.proofs.Room.{fit-short}
 use Rattle.crn_laws.specs.Scripts.{Sent, sent, HasCode, AllCoded, Draws, inCode, endpointsSent, positionSent, selectorsSent, chunkSent, levelSent}
@@ -25,10 +26,6 @@ use Rattle.crn_laws.proofs.Following.{AllIn}
 -- each symbol with a code can be written
 abbrev Writes : List ℕ → Type 0
 Writes ls = (y : ℕ) → HasCode (sent ls y) → Writable (aSymbol ls) y
-
-both-hold : (a b : Bool) → both a b ≡ true → (a ≡ true) × (b ≡ true)
-both-hold true b e = (refl, e)
-both-hold false b e = absurd (false≢true e)
 
 code-writes : (ls : List ℕ) → isCode ls ≡ true → Writes ls
 unfolding Writable
