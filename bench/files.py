@@ -11,8 +11,14 @@ import os
 import random
 import sys
 
-sys.path.insert(0, os.path.join(sys.argv[1], 'oracle'))
-import mkcrn
+import importlib.util
+
+# cases/files.py has the generator with a quicker count of runs
+sys.path.insert(0, os.path.join(os.path.dirname(os.path.abspath(__file__)), '..', 'cases'))
+spec = importlib.util.spec_from_file_location('case_files', os.path.join(sys.path[0], 'files.py'))
+case_files = importlib.util.module_from_spec(spec)
+spec.loader.exec_module(case_files)
+mkcrn = case_files.generator(sys.argv[1])
 
 FORMATS = [('DXT1', 0), ('DXT5', 2), ('DXT5A', 9), ('DXN', 7)]
 SIDES = {50: 64, 500: 256, 8000: 512}                       # of the one level, by the palettes' entries
