@@ -7,8 +7,9 @@ ghost use lib.ListN.{length, getD};
 ghost use Rattle.crn_format.specs.Limits.{tooLong, maxEntries};
 ghost use Rattle.crn_symbol_codec.specs.Cursors.{place as «placeOf», Holds};
 ghost use Rattle.crn_chunks.specs.Meaning.{Onward, Served, Named, Small, most};
+ghost use Rattle.crn_chunks.specs.Parts.{Ready, Encodes};
 ghost use Rattle.crn_chunks.specs.Reads.{Reads, insideOf};
-ghost use Rattle.crn_quick.specs.Quick.{Able, each as «eachOf», Stepped, QuickTiled, QuickAllTiled, QuickPicks, QuickAllPicked, QuickRead};
+ghost use Rattle.crn_quick.specs.Quick.{Able, sideAt, beginning, each as «eachOf», Stepped, QuickTiled, QuickAllTiled, QuickPicks, QuickAllPicked, QuickRead};
 use crn_chunks::Carried;
 use crn_chunks::Chunked;
 use crn_chunks::Encoded;
@@ -225,7 +226,29 @@ fn quick_plane(
     }
 }
 
-// The same for each plane.
+// The plane of number p.
+fn plane(ps: Planes, p: usize) -> Side
+    ensures { λ r. ⌜ r ≡ sideAt ps p ⌝ }
+{
+    if p == 0 {
+        let first = ps.first;
+        return first;
+    }
+    let second = ps.second;
+    second
+}
+
+// Where its endpoint indices begin.
+fn begun(e0: u64, e1: u64, p: usize) -> u64
+    ensures { λ r. ⌜ r ≡ beginning e0 e1 p ⌝ }
+{
+    if p == 0 {
+        return e0;
+    }
+    e1
+}
+
+// The same for each plane, one after the other.
 fn quick_tiles(
     lookup: &[u32],
     sorted: &[u16],
@@ -240,29 +263,38 @@ fn quick_tiles(
     requires { ⌜ Able (now lookup) (now sorted) (now seg) ps c ⌝ ∗ ⌜ (e0 < most) × (e1 < most) ⌝ ∗ ⌜ n ≤ 4 ⌝ ∗ ⌜ length (now out) ≡ 16 ⌝ }
     ensures { λ a. ⌜ QuickAllTiled (now (lookup .entry)) (now (sorted .entry)) (now (seg .entry)) ps n e0 e1 c (now (out .exit)) a ⌝ }
 {
-    let p = ps.first;
-    let t = quick_plane(lookup, sorted, seg, ps, p, 0, n, e0, c, out);
-    let d = t.cursor;
-    let lost = t.lost;
-    if lost {
-        return no_steps(d);
-    }
     let two = ps.two;
+    let planes = each(two, 1) as usize;
+    let mut at = c;
+    let mut i0: u64 = 0;
+    let mut i1: u64 = 0;
+    let mut p: usize = 0;
+    while p < planes {
+        let q = plane(ps, p);
+        let i = begun(e0, e1, p);
+        let t = quick_plane(lookup, sorted, seg, ps, q, 4 * p, n, i, at, out);
+        let d = t.cursor;
+        let lost = t.lost;
+        if lost {
+            return no_steps(d);
+        }
+        i0 = i1;
+        i1 = t.index;
+        at = d;
+        p += 1;
+    }
     if two {
-        let q = ps.second;
-        let u = quick_plane(lookup, sorted, seg, ps, q, 4, n, e1, d, out);
-        let e = u.cursor;
         return Steps {
-            cursor: e,
-            i0: t.index,
-            i1: u.index,
+            cursor: at,
+            i0,
+            i1,
             length: 0,
-            lost: u.lost,
+            lost: false,
         };
     }
     Steps {
-        cursor: d,
-        i0: t.index,
+        cursor: at,
+        i0: i1,
         i1: e1,
         length: 0,
         lost: false,
@@ -435,6 +467,29 @@ fn quick_chunk(
     }
 }
 
+// The next encoding. One that is pending takes no call.
+fn encoding(
+    lookup: &[u32],
+    sorted: &[u16],
+    seg: &[u8],
+    ps: Planes,
+    pending: u32,
+    s: Stream,
+) -> Encoded
+    requires { ⌜ Ready (now lookup) (now sorted) (now seg) ps s ⌝ }
+    ensures { λ a. ⌜ Encodes (now (lookup .entry)) (now (sorted .entry)) (now (seg .entry)) ps pending s a ⌝ }
+{
+    if 64 <= pending {
+        return Encoded::Code(pending % 8, 8 + pending / 8 % 8, s);
+    }
+    if 8 <= pending {
+        return Encoded::Code(pending % 8, 0, s);
+    }
+    let planes = ps;
+    let stream = s;
+    next_encoding(lookup, sorted, seg, planes, pending, stream)
+}
+
 // A chunk, as `crn_chunks::read_chunk` reads it.
 pub fn read_chunk(
     lookup: &[u32],
@@ -450,14 +505,27 @@ pub fn read_chunk(
     requires { ⌜ length (now seg) < tooLong ⌝ ∗ ⌜ Served ps (now lookup) (now sorted) ⌝ ∗ ⌜ Onward (now seg) r s ⌝ }
     ensures { λ a. ⌜ Reads (now (lookup .entry)) (now (sorted .entry)) (now (seg .entry)) ps right bottom r s (now (out .exit)) a ⌝ }
 {
-    match next_encoding(lookup, sorted, seg, ps, r.pending, s) {
+    match encoding(lookup, sorted, seg, ps, r.pending, s) {
         Encoded::Uncoded(x) => Chunked::Refused(x),
         Encoded::Code(e, pending, t) => {
             let n = tile_count(e) as usize;
             let q = quick_chunk(lookup, sorted, seg, ps, n, right, bottom, r, t, out);
             let lost = q.lost;
             if lost {
-                return crn_chunks::read_chunk(lookup, sorted, seg, ps, right, bottom, r, s, out);
+                let planes = ps;
+                let carried = r;
+                let stream = s;
+                return crn_chunks::read_chunk(
+                    lookup,
+                    sorted,
+                    seg,
+                    planes,
+                    right,
+                    bottom,
+                    carried,
+                    stream,
+                    out,
+                );
             }
             let after = q.stream;
             let next = Carried {

@@ -6,8 +6,8 @@ use Rattle.crn_chunks.proofs.Chunking.{reads-uncoded, encoded-holds, reads-chun
 use Rattle.crn_quick.proofs.read_chunk.Statement.{statement}
 use Rattle.crn_quick.proofs.read_chunk.Tie as tie
 
-next-encoding-requires : tie.Need-next-encoding-requires
-next-encoding-requires c κs = record { short = c .before .before .before .pre .0; served = c .before .before .before .pre .1 .0; holds = c .before .before .before .pre .1 .1 .holds }
+encoding-requires : tie.Need-encoding-requires
+encoding-requires c κs = record { short = c .before .before .before .pre .0; served = c .before .before .before .pre .1 .0; holds = c .before .before .before .pre .1 .1 .holds }
 
 enum-known-x : tie.Need-enum-known-x
 enum-known-x c = search needs
@@ -28,7 +28,7 @@ quick-chunk-requires c κs =
       (
         st .pre .1 .0,
         (
-          record { holds = encoded-holds (st .args .ps) (st .args .right) (st .args .bottom) (st .args .r) (c .before .before .before .before .before .next-encoding .ensures) (c .before .before .before .e .given .1); ends = st .pre .1 .1 .ends; first = st .pre .1 .1 .first; second = st .pre .1 .1 .second },
+          record { holds = encoded-holds (st .args .ps) (st .args .right) (st .args .bottom) (st .args .r) (c .before .before .before .before .before .encoding .ensures) (c .before .before .before .e .given .1); ends = st .pre .1 .1 .ends; first = st .pre .1 .1 .first; second = st .pre .1 .1 .second },
           (c .before .tile-count .ensures .1, c .quick-chunk-arg .given .0 .1),
         ),
       ),
@@ -43,19 +43,19 @@ returns c = c .read-chunk .ensures
 returns-2 : tie.Need-returns-2
 returns-2 c =
     let st = c .before .before .before .before .before .before .before in
-    reads-uncoded (st .args .ps) (st .args .right) (st .args .bottom) (st .args .r) (c .before .before .before .next-encoding .ensures) (c .before .x .given .1)
+    reads-uncoded (st .args .ps) (st .args .right) (st .args .bottom) (st .args .r) (c .before .before .before .encoding .ensures) (c .before .x .given .1)
 
 returns-3 : tie.Need-returns-3
 returns-3 c =
     let st = c .before .before .before .before .before .before .before .before .before .before .before .before in
     let w = c .before .before .quick-chunk .ensures (c .before .if1 .left) in
-    reads-chunk (st .args .ps) (st .args .right) (st .args .bottom) (st .args .r) (c .before .before .before .before .before .before .before .before .next-encoding .ensures) (c .before .before .before .before .before .before .e .given .1) (c .before .before .before .before .tile-count .ensures .0) (w .tiled) refl (w .picked) refl (c .before .before .before .before .tile-count .ensures .1) (w .long)
+    reads-chunk (st .args .ps) (st .args .right) (st .args .bottom) (st .args .r) (c .before .before .before .before .before .before .before .before .encoding .ensures) (c .before .before .before .before .before .before .e .given .1) (c .before .before .before .before .tile-count .ensures .0) (w .tiled) refl (w .picked) refl (c .before .before .before .before .tile-count .ensures .1) (w .long)
 
 pub read-chunk-spec : {M : Type 1} → statement M
 read-chunk-spec =
     tie.close
     (tie.spec
-    next-encoding-requires
+    encoding-requires
     enum-known-x
     enum-known-e
     tile-count-requires
