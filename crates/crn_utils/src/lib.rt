@@ -1,13 +1,9 @@
 // Steps that every part of the unpacker takes: a running index brought back into range, and words of several bytes.
 ghost use mathlib.Core.Path.{_≡_};
-ghost use Prim.Native.Nat.{_+_, _≤_, _<_};
-ghost use lib.ListN.{length, getD};
-ghost use lib.Seq.{sets};
-ghost use lib.Dec.{leb};
-ghost use Rattle.crn_format.specs.Choice.{pick};
+ghost use Prim.Native.Nat.{_<_};
+ghost use lib.ListN.{getD};
 ghost use Rattle.crn_format.specs.Level.{limited};
 ghost use Rattle.crn_format.specs.Header.{field};
-ghost use Rattle.crn_format.specs.Grid.{little};
 ghost use Rattle.crn_utils.specs.Little.{littleAt};
 
 // An index "loses the palette size once if it isn't below it" (document 01, Chunks): never by remainder.
@@ -72,31 +68,4 @@ pub fn little64(s: &[u8], at: u32) -> u64
     let low = four(s, at as usize) as u64;
     let high = four(s, at as usize + 4) as u64;
     low + 4294967296 * high
-}
-
-// Writes the eight bytes of v, the lowest first. The compiler makes one store of them.
-fn put_eight(dst: &mut [u8], at: usize, v: u64)
-    requires { ⌜ at + 8 ≤ length (now dst) ⌝ }
-    ensures { λ _. ⌜ now (dst .exit) ≡ sets (now (dst .entry)) at (little 8 v) ⌝ }
-{
-    dst[at] = (v % 256) as u8;
-    dst[at + 1] = (v / 256 % 256) as u8;
-    dst[at + 2] = (v / 65536 % 256) as u8;
-    dst[at + 3] = (v / 16777216 % 256) as u8;
-    dst[at + 4] = (v / 4294967296 % 256) as u8;
-    dst[at + 5] = (v / 1099511627776 % 256) as u8;
-    dst[at + 6] = (v / 281474976710656 % 256) as u8;
-    dst[at + 7] = (v / 72057594037927936 % 256) as u8;
-}
-
-// Writes the eight bytes of v, the lowest first, where they fit; else nothing.
-pub fn put_little64(dst: &mut [u8], at: usize, v: u64)
-    ensures { λ _. ⌜ now (dst .exit) ≡ pick (leb (at + 8) (length (now (dst .entry)))) (sets (now (dst .entry)) at (little 8 v)) (now (dst .entry)) ⌝ }
-{
-    let n = dst.len();
-    if 8 <= n {
-        if at <= n - 8 {
-            put_eight(dst, at, v);
-        }
-    }
 }
