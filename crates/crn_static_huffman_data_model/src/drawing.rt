@@ -26,7 +26,8 @@ pub fn ready(seg: &[u8], c: Cursor) -> Cursor
     c
 }
 
-// A symbol, as `crn_symbol_codec::draw` answers, to which the cursor goes part by part, so that a loop need not keep it in memory. It is looked up where the cursor is ready and the code short enough.
+// A symbol, as `crn_symbol_codec::draw` answers. It is looked up where the cursor is ready and the code short enough; else the cursor is
+// handed on part by part, so that a loop need not keep it in memory.
 pub fn draw(lookup: &[u32], sorted: &[u16], seg: &[u8], c: Cursor) -> Taken
     requires { ⌜ Holds (now seg) c ⌝ ∗ ⌜ Usable (now lookup) (now sorted) ⌝ }
     ensures { λ r. ⌜ ((ls : List ℕ) → Decodes ls (now (lookup .entry)) (now (sorted .entry)) → Takes (now (seg .entry)) (aSymbol ls) c r) ⌝ }

@@ -228,13 +228,7 @@ fn coded_table(
 }
 
 // A table of `count` symbols, from the number of lengths of the code of lengths on.
-fn counted_table(
-    seg: &[u8],
-    c: Cursor,
-    count: usize,
-    home: Cursor,
-    out: &mut [u8],
-) -> Received
+fn counted_table(seg: &[u8], c: Cursor, count: usize, home: Cursor, out: &mut [u8]) -> Received
     requires { ⌜ Holds (now seg) c ⌝ ∗ ⌜ length (now seg) < tooLong ⌝ ∗ ⌜ count ≤ maxSymbols ⌝ ∗ ⌜ now out ≡ replicate maxSymbols 0 ⌝ }
     ensures { λ r. ⌜ TellsAt (now (seg .entry)) (counted count) c home r (now (out .exit)) ⌝ }
 {
