@@ -1,10 +1,10 @@
 // The header look: refusal 1, 2 or 3, or the header.
 use crn_bounds::sizes_hold;
 use crn_bounds::within_limits;
-use crn_header::header_of;
-use crn_header::is_signed;
 use crn_format::Header;
 use crn_format::Part;
+use crn_header::header_of;
+use crn_header::is_signed;
 ghost use mathlib.Core.Path.{_≡_};
 ghost use Rattle.crn_decomp.specs.Look.{emptyHeader, no, lookOf};
 

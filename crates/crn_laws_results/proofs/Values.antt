@@ -7,7 +7,6 @@ use Rattle.crn_utils.proofs.big24.Reads as big24
 use Rattle.crn_utils.proofs.big32.Reads as big32
 use Rattle.crn_utils.proofs.little32.Reads as little32
 use Rattle.crn_utils.proofs.little64.Reads as little64
-use Rattle.crn_utils.proofs.put_little64.Reads as put-little64
 use Rattle.crn_consts.proofs.tile_count.Reads as tile-count
 use Rattle.crn_consts.proofs.tile.Reads as tile
 use Rattle.crn_consts.proofs.color_from_linear.Reads as color-from-linear
@@ -71,9 +70,6 @@ little32-settled _ _ _ _ _ _ _ p q = alike p q
 
 pub little64-settled : Settled little64.Post theAnswer
 little64-settled _ _ _ _ _ _ _ p q = alike p q
-
-pub put-little64-settled : Settled put-little64.Post (λ a r e. now (e .0))
-put-little64-settled _ _ _ _ _ _ _ p q = alike p q
 
 -- ---- crn_consts
 

@@ -15,8 +15,8 @@ use crn_chunks::Carried;
 use crn_chunks::Chunked;
 use crn_chunks::Planes;
 use crn_chunks::Stream;
-use crn_quick::read_chunk;
 use crn_format::Grid;
+use crn_quick::read_chunk;
 
 // A chunk is read whole, then its blocks are put in their places.
 fn chunk(
