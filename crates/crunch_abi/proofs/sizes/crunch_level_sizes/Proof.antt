@@ -8,7 +8,7 @@ use borrow.Author.Tests.{not-true, not-false, lt-ltb, le-ltb}
 use Rattle.crn_format.specs.Header.{kindOf, withinLimits}
 use Rattle.crn_format.specs.Unpacking.{gridOf}
 use Rattle.crn_formats.proofs.ByFormat.{bytes-at-most}
-use Rattle.crn_level.proofs.Limits.{Limited, limited}
+use Rattle.crn_formats.proofs.Limited.{Limited, limited}
 use Rattle.crunch_abi.specs.Sizes.{levelSizes}
 use Rattle.crunch_abi.proofs.Few.{few}
 use Rattle.crunch_abi.proofs.sizes.crunch_level_sizes.Statement.{statement}
