@@ -188,6 +188,16 @@ def table_row(file, h):
                 return TABLE_RULES.get(refusal.rule)
 
 
+def tables_first(file, h):
+    """44 where the code tables fail, which the Rust reads before it looks at a palette's segment."""
+    reader = reference.Reader(file[h['tables_offset']:h['tables_offset'] + h['tables_size']])
+    try:
+        for _ in range(1 + sum(h[p[0] + 'e'][2] > 0 for p in reference.PARTS)):
+            reference.table(reader)
+    except reference.Refusal:
+        return 44
+
+
 def why_so(file, number, opened):
     h = reference.header_of(file.ljust(1100, b'\0'))
     read = [p for p in reference.PARTS if h[p[0] + 'e'][2]]
@@ -200,7 +210,7 @@ def why_so(file, number, opened):
     if number == 3:
         return 2 if h['header_size'] < 70 + 4 * h['levels'] else 3 if h['header_size'] > len(file) else None
     if number == 4:
-        return 15 if max(ends) > len(file) else at_the_end
+        return 15 if max(ends) > len(file) else at_the_end or tables_first(file, h)
     if number == 5:
         return 29
     if number == 6:
