@@ -251,7 +251,7 @@ fn position(
 }
 
 // Whether position k lies inside.
-pub fn lies_inside(right: bool, bottom: bool, k: usize) -> bool
+fn lies_inside(right: bool, bottom: bool, k: usize) -> bool
     requires { ⌜ k < 4 ⌝ }
     ensures { λ r. ⌜ r ≡ getD (insideOf right bottom) k true ⌝ }
 {
@@ -305,7 +305,7 @@ fn positions(
 }
 
 // The next encoding: one that is pending, or the first of a chunk symbol.
-pub fn next_encoding(
+fn next_encoding(
     lookup: &[u32],
     sorted: &[u16],
     seg: &[u8],

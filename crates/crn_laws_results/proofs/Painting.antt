@@ -9,10 +9,8 @@ use Rattle.crn_format.specs.Reading.{Step, Spending}
 use Rattle.crn_format.specs.Level.{Running}
 use Rattle.crn_format.specs.Grid.{chunkCount}
 use Rattle.crn_chunks.specs.Meaning.{Served}
-use Rattle.crn_chunks.specs.Parts.{encoded}
 use Rattle.crn_chunks.specs.Reads.{chunked}
 use Rattle.crn_chunks.specs.declared.Stream.{Stream}
-use Rattle.crn_chunks.proofs.next_encoding.Reads as next-encoding
 use Rattle.crn_chunks.proofs.read_chunk.Reads as read-chunk
 use Rattle.crn_quick.proofs.read_chunk.Reads as quick-read-chunk
 use Rattle.crn_blocks.proofs.Whole.{wiped}
@@ -24,10 +22,6 @@ use Rattle.crn_unpacker.proofs.paint.Reads as paint
 use Rattle.crn_laws_results.specs.Settled.{SettledIf, alike}
 use Rattle.crn_laws_results.specs.Seen.{went, left}
 use Rattle.crn_laws_results.proofs.Steps.{got-or-refused}
-
--- the encoding and what is pending after it, with the place after it and the budget that is left; or the refusal
-pub next-encoding-settled : SettledIf (λ (lookup, (sorted, (seg, (ps, _)))) r. Served ps (now lookup) (now sorted)) next-encoding.Post (λ a r e. encoded r)
-next-encoding-settled _ _ _ _ _ _ _ h _ p q = alike (p .same (h .codes) (h .coded)) (q .same (h .codes) (h .coded))
 
 -- the chunk and what is carried on from it, with the place after it and the budget that is left; or the refusal
 pub read-chunk-settled : SettledIf (λ (lookup, (sorted, (seg, (ps, _)))) r. Served ps (now lookup) (now sorted)) read-chunk.Post

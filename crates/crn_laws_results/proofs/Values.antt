@@ -40,7 +40,6 @@ use Rattle.crn_symbol_codec.proofs.entry.Reads as entry
 use Rattle.crn_static_huffman_data_model.proofs.is_code.Reads as is-code
 use Rattle.crn_palettes.proofs.clear32.Reads as clear32
 use Rattle.crn_palettes.proofs.clear16.Reads as clear16
-use Rattle.crn_chunks.proofs.lies_inside.Reads as lies-inside
 use Rattle.crn_blocks.proofs.put_eight.Reads as put-eight
 use Rattle.crn_blocks.proofs.clear.Reads as clear
 use Rattle.crn_blocks.proofs.cutouts.Reads as cutouts
@@ -174,11 +173,6 @@ entry-settled _ _ _ _ _ _ _ p q = alike p q
 
 pub is-code-settled : Settled is-code.Post theAnswer
 is-code-settled _ _ _ _ _ _ _ p q = alike p q
-
--- ---- crn_chunks: where a position lies
-
-pub lies-inside-settled : Settled lies-inside.Post theAnswer
-lies-inside-settled _ _ _ _ _ _ _ p q = alike p q
 
 -- ---- crn_palettes, crn_blocks: lent slices
 

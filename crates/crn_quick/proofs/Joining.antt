@@ -74,12 +74,12 @@ module _ {lookup sorted seg : List ℕ} {ps : Planes} {p : Side} {base n i : ℕ
         }
 
     pub quick-more : {d : Cursor} {a : Step} → Holds seg d → place d ≡ place at → k < n → Stepped lookup sorted seg ps (p .ends) (p .endpoints) true last d a → a .lost ≡ false
-        → base + n ≤ length before → QuickTiling lookup sorted seg ps p base n i c before (set out (base + k) (a .index)) (a .cursor) (a .index) (k + 1)
+        → base + n ≤ length before → QuickTiling lookup sorted seg ps p base n i c before (set out (base + k) (a .number)) (a .cursor) (a .number) (k + 1)
     quick-more {d} h e more s kept room b l m f =
         let y = moved h e b l (m + 1) (omega arith) in
         record { blamed = place d; tiling = tiling-more (y .tiling) more (s .drawn kept (y .blamed) (m + 1) m refl) refl room }
 
-    pub quick-done : n ≤ k → k ≤ n → (b l m : ℕ) → l ≡ m + n → {a : Step} → a .index ≡ last → a .cursor ≡ at → Tiles lookup sorted seg ps p base n i (streamAt c b l) m before out a
+    pub quick-done : n ≤ k → k ≤ n → (b l m : ℕ) → l ≡ m + n → {a : Step} → a .number ≡ last → a .cursor ≡ at → Tiles lookup sorted seg ps p base n i (streamAt c b l) m before out a
     quick-done u w b l m f {a} g h =
         let y = x b l m (omega arith) in
         record { blamed = y .blamed; tiled = rw (g, h) (tiling-done (y .tiling) u) }
@@ -100,12 +100,12 @@ pub record Planed (lookup sorted seg : List ℕ) (ps : Planes) (n e0 e1 : ℕ) (
   pub long : length out ≡ length before
   pub none : p ≡ 0 → at ≡ c
   pub from : List ℕ
-  pub one : p ≡ 1 → QuickTiled lookup sorted seg ps (ps .first) 0 n e0 c from out (record { cursor = at; index = i1; length = 0; lost = false })
+  pub one : p ≡ 1 → QuickTiled lookup sorted seg ps (ps .first) 0 n e0 c from out (record { cursor = at; number = i1; length = 0; lost = false })
   pub both : p ≡ 2 → (b l m : ℕ) → l ≡ m + (n + n) → AllTiles lookup sorted seg ps n e0 e1 (streamAt c b l) m out (record { cursor = at; i0 = i0; i1 = i1; length = 0; lost = false })
 
 -- the steps' other numbers do not matter
 same-tiles : {lookup sorted seg : List ℕ} {ps : Planes} {p : Side} {base n i : ℕ} {c : Cursor} {before after : List ℕ} {u : Step} → u .lost ≡ false
-    → QuickTiled lookup sorted seg ps p base n i c before after u → QuickTiled lookup sorted seg ps p base n i c before after (record { cursor = u .cursor; index = u .index; length = 0; lost = false })
+    → QuickTiled lookup sorted seg ps p base n i c before after u → QuickTiled lookup sorted seg ps p base n i c before after (record { cursor = u .cursor; number = u .number; length = 0; lost = false })
 same-tiles kept y z b l m f = let w = y kept b l m f in record { blamed = w .blamed; tiled = w .tiled }
 
 module _ {lookup sorted seg : List ℕ} (ps : Planes) {n e0 : ℕ} (e1 : ℕ) {c : Cursor} where
@@ -123,7 +123,7 @@ module _ {lookup sorted seg : List ℕ} (ps : Planes) {n e0 : ℕ} (e1 : ℕ) {c
 
   pub planed-more : (p : ℕ) {before out after : List ℕ} {at : Cursor} {i0 i1 : ℕ} {u : Step} → Planed lookup sorted seg ps n e0 e1 c before out at i0 i1 p → p < each (ps .two) 1
       → QuickTiled lookup sorted seg ps (sideAt ps p) (4 * p) n (beginning e0 e1 p) at out after u → u .lost ≡ false → n ≤ 4 → length after ≡ length out
-      → Planed lookup sorted seg ps n e0 e1 c before after (u .cursor) i1 (u .index) (p + 1)
+      → Planed lookup sorted seg ps n e0 e1 c before after (u .cursor) i1 (u .number) (p + 1)
   planed-more zero {out = out} {u = u} x more y kept few long =
       let g : QuickTiled lookup sorted seg ps (ps .first) 0 n e0 c out _ _ = rw (x .none refl) at (same-tiles kept y) in
       record {
@@ -164,7 +164,7 @@ module _ {lookup sorted seg : List ℕ} (ps : Planes) {n e0 : ℕ} (e1 : ℕ) {c
 
 module _ {lookup sorted seg : List ℕ} (ps : Planes) (inside : Bool) (s0 s1 : ℕ) {c : Cursor} {t : Step}
     (x : Stepped lookup sorted seg ps (ps .first .sels) (ps .first .selectors) inside s0 c t) (kept : t .lost ≡ false) where
-  pub picked-one : ps .two ≡ false → QuickPicks lookup sorted seg ps inside s0 s1 c (record { cursor = t .cursor; i0 = t .index; i1 = 0; length = t .length; lost = false })
+  pub picked-one : ps .two ≡ false → QuickPicks lookup sorted seg ps inside s0 s1 c (record { cursor = t .cursor; i0 = t .number; i1 = 0; length = t .length; lost = false })
   picked-one h =
       record {
         picked = λ good b l m f.
@@ -174,7 +174,7 @@ module _ {lookup sorted seg : List ℕ} (ps : Planes) (inside : Bool) (s0 s1 : �
       }
 
   pub picked-two : {u : Step} → ps .two ≡ true → Stepped lookup sorted seg ps (ps .second .sels) (ps .second .selectors) inside s1 (t .cursor) u
-      → QuickPicks lookup sorted seg ps inside s0 s1 c (record { cursor = u .cursor; i0 = t .index; i1 = u .index; length = u .length; lost = u .lost })
+      → QuickPicks lookup sorted seg ps inside s0 s1 c (record { cursor = u .cursor; i0 = t .number; i1 = u .number; length = u .length; lost = u .lost })
   picked-two {u} h y =
       record {
         picked = λ good b l m f.
@@ -254,6 +254,22 @@ module _ {lookup sorted seg : List ℕ} {ps : Planes} {right bottom : Bool} {s0 
               rw (y .behind (omega arith)) at (picking-done (y .picking) h);
           passed = λ good. x .passed;
         }
+
+-- ---- the positions of one plane
+
+module _ {lookup sorted seg : List ℕ} {ps : Planes} {which size i : ℕ} {c : Cursor} {t : Step} (x : (inside : Bool) → Stepped lookup sorted seg ps which size inside i c t) (kept : t .lost ≡ false) where
+  pub stepped-holds : Holds seg (t .cursor)
+  stepped-holds = x true .drawn kept 0 1 0 refl .on .0
+
+  pub stepped-small : t .number < most
+  stepped-small = let a = x true .drawn kept 0 1 0 refl .on .1 in omega arith
+
+pub single-more : {lookup sorted seg : List ℕ} (ps : Planes) (right bottom : Bool) {s0 s1 : ℕ} {c : Cursor} {before out : List ℕ} {at : Cursor} {i0 i1 len : ℕ} (k : ℕ) {d : Cursor} {t : Step}
+    → ps .two ≡ false → length before ≡ 16 → QuickPicking lookup sorted seg ps right bottom s0 s1 c before out at i0 i1 len k → Holds seg d → place d ≡ place at → k < 4
+    → ((inside : Bool) → Stepped lookup sorted seg ps (ps .first .sels) (ps .first .selectors) inside i0 d t) → t .lost ≡ false
+    → QuickPicking lookup sorted seg ps right bottom s0 s1 c before (set (set out (8 + k) (t .number)) (12 + k) 0) (t .cursor) (t .number) 0 (t .length) (k + 1)
+single-more ps right bottom {i0 = i0} {i1 = i1} k one room x h e more y kept =
+    picks-more x h e more (picked-one ps (getD (insideOf right bottom) k true) i0 i1 (y (getD (insideOf right bottom) k true)) kept one) refl room
 
 -- ---- tiles and positions
 

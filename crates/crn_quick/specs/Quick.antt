@@ -1,5 +1,5 @@
--- What the quick way to read a chunk's indices found. Where it was not lost, its numbers are what the slow way answers, from a stream at the cursor with any bit
--- blamed and a budget of l, of which m are left: nothing looks at either on the way.
+-- What the quick way to read a chunk found. Where it was not lost, its numbers are what the slow way answers, from a stream at the cursor with any bit
+-- blamed and a budget of l, of which m are left: nothing looks at either on the way. Whether a position lies inside does not matter to it either.
 use Prim.Native.Nat.{ℕ, zero, suc, _+_, _-_, _≤_}
 use mathlib.Core.Path.{_≡_}
 use mathlib.Core.Bool.{Bool, false}
@@ -9,17 +9,22 @@ use Rattle.crn_format.specs.Choice.{pick}
 use Rattle.crn_symbol_codec.specs.Cursors.{place, Holds}
 use Rattle.crn_symbol_codec.specs.declared.Cursor.{Cursor}
 use Rattle.crn_chunks.specs.Meaning.{Served}
-use Rattle.crn_chunks.specs.Parts.{Draws, indexOf, reach, Tiled, AllTiled, Picks, AllPicked}
-use Rattle.crn_chunks.specs.Reads.{insideOf}
+use Rattle.crn_format.specs.Reading.{symbol}
+use Rattle.crn_chunks.specs.Parts.{Draws, indexOf, reach, farthest, Tiled, AllTiled, Picks, AllPicked, Encodes}
+use Rattle.crn_chunks.specs.Reads.{Reads, insideOf}
 use Rattle.crn_chunks.specs.declared.Side.{Side}
 use Rattle.crn_chunks.specs.declared.Planes.{Planes}
 use Rattle.crn_chunks.specs.declared.Carried.{Carried}
 use Rattle.crn_chunks.specs.declared.Stream.{Stream}
 use Rattle.crn_quick.specs.declared.Step.{Step}
 use Rattle.crn_quick.specs.declared.Steps.{Steps}
+use Rattle.crn_quick.specs.declared.Code.{Code}
 use Rattle.crn_quick.specs.declared.Quick.{Quick}
+use Rattle.crn_quick.specs.declared.QuickChunk.{QuickChunk}
 use Rattle.crn_chunks.specs.declared.Drew.the-variants.{Got}
 use Rattle.crn_chunks.specs.declared.Paired.the-variants.{Pair}
+use Rattle.crn_chunks.specs.declared.Encoded.the-variants as encoded
+use Rattle.crn_chunks.specs.declared.Chunked.the-variants.{Read}
 
 abbrev pub streamAt : Cursor → ℕ → ℕ → Stream
 streamAt c b l = record { cursor = c; blamed = b; left = l }
@@ -42,16 +47,22 @@ abbrev pub beginning : ℕ → ℕ → ℕ → ℕ
 beginning e0 e1 zero = e0
 beginning e0 e1 (suc k) = e1
 
+-- a symbol
+pub record Found (lookup sorted seg : List ℕ) (ps : Planes) (which : ℕ) (c : Cursor) (a : Step) : Type 0 where
+  pub drawn : a .lost ≡ false → (b l m : ℕ) → l ≡ m + 1
+      → Draws lookup sorted seg ps (λ cs. symbol (cs which)) (streamAt c b l) farthest (Got (a .number) (streamAt (a .cursor) (place c) m))
+  pub passed : a .lost ≡ false → place (a .cursor) ≡ place c + a .length
+
 -- an index
 pub record Stepped (lookup sorted seg : List ℕ) (ps : Planes) (which size : ℕ) (inside : Bool) (i : ℕ) (c : Cursor) (a : Step) : Type 0 where
   pub drawn : a .lost ≡ false → (b l m : ℕ) → l ≡ m + 1
-      → Draws lookup sorted seg ps (λ cs. indexOf (cs which) size inside i) (streamAt c b l) (reach inside i) (Got (a .index) (streamAt (a .cursor) (place c) m))
+      → Draws lookup sorted seg ps (λ cs. indexOf (cs which) size inside i) (streamAt c b l) (reach inside i) (Got (a .number) (streamAt (a .cursor) (place c) m))
   pub passed : a .lost ≡ false → place (a .cursor) ≡ place c + a .length
 
 -- the indices of a plane's tiles
 pub record Tiles (lookup sorted seg : List ℕ) (ps : Planes) (p : Side) (base n i : ℕ) (s : Stream) (m : ℕ) (before after : List ℕ) (a : Step) : Type 0 where
   pub blamed : ℕ
-  pub tiled : Tiled lookup sorted seg ps p base n i s before after (Got (a .index) (streamAt (a .cursor) blamed m))
+  pub tiled : Tiled lookup sorted seg ps p base n i s before after (Got (a .number) (streamAt (a .cursor) blamed m))
 
 abbrev pub QuickTiled : List ℕ → List ℕ → List ℕ → Planes → Side → ℕ → ℕ → ℕ → Cursor → List ℕ → List ℕ → Step → Type 0
 QuickTiled lookup sorted seg ps p base n i c before after a =
@@ -86,5 +97,15 @@ pub record Both (lookup sorted seg : List ℕ) (ps : Planes) (n : ℕ) (right bo
   pub tiled : AllTiled lookup sorted seg ps n (r .e0) (r .e1) s mid (Pair (a .e0) (a .e1) between)
   pub picked : AllPicked lookup sorted seg ps (insideOf right bottom) (r .s0) (r .s1) between mid out (Pair (a .s0) (a .s1) (a .stream))
 
-abbrev pub QuickRead : List ℕ → List ℕ → List ℕ → Planes → ℕ → Bool → Bool → Carried → Stream → List ℕ → Quick → Type 0
-QuickRead lookup sorted seg ps n right bottom r s out a = a .lost ≡ false → Both lookup sorted seg ps n right bottom r s out a
+abbrev pub QuickRead : List ℕ → List ℕ → List ℕ → Planes → ℕ → Carried → Stream → List ℕ → Quick → Type 0
+QuickRead lookup sorted seg ps n r s out a = a .lost ≡ false → (right bottom : Bool) → Both lookup sorted seg ps n right bottom r s out a
+
+-- an encoding takes one symbol at most
+pub record QuickEncodes (lookup sorted seg : List ℕ) (ps : Planes) (v : ℕ) (s : Stream) (a : Code) : Type 0 where
+  pub same : a .lost ≡ false → Encodes lookup sorted seg ps v s (encoded.Code (a .encoding) (a .pending) (a .stream))
+  pub few : s .left ≤ a .stream .left + 1
+
+-- a chunk
+abbrev pub QuickReads : List ℕ → List ℕ → List ℕ → Planes → Carried → Stream → List ℕ → QuickChunk → Type 0
+QuickReads lookup sorted seg ps r s out a =
+    a .lost ≡ false → (right bottom : Bool) → Reads lookup sorted seg ps right bottom r s out (Read (a .encoding) (a .carried) (a .stream))
