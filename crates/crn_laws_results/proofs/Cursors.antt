@@ -17,9 +17,9 @@ use Rattle.crn_symbol_codec.proofs.refill.Reads as refill
 use Rattle.crn_symbol_codec.proofs.number.Reads as number
 use Rattle.crn_symbol_codec.proofs.draw_ready.Reads as draw-ready
 use Rattle.crn_symbol_codec.proofs.draw.Reads as draw
-use Rattle.crn_static_huffman_data_model.specs.Parts.{SomeCode}
-use Rattle.crn_static_huffman_data_model.proofs.ready.Reads as ready
-use Rattle.crn_static_huffman_data_model.proofs.draw.Reads as model-draw
+use Rattle.crn_symbol_codec.specs.Decoders.{SomeCode}
+use Rattle.crn_short_draw.proofs.ready.Reads as ready
+use Rattle.crn_short_draw.proofs.draw.Reads as short-draw
 use Rattle.crn_laws_results.specs.Settled.{Settled, SettledIf, alike}
 use Rattle.crn_laws_results.proofs.Steps.{got-tells, refused-tells, got-or-refused}
 
@@ -56,5 +56,5 @@ draw-ready-settled _ _ _ _ _ _ _ h _ p q = takes-settled (p .0 (h .code) (h .dec
 pub draw-settled : SettledIf (λ (lookup, (sorted, _)) r. SomeCode (now lookup) (now sorted)) draw.Post (λ a r e. drew r)
 draw-settled _ _ _ _ _ _ _ h _ p q = takes-settled (p (h .code) (h .decodes)) (q (h .code) (h .decodes))
 
-pub model-draw-settled : SettledIf (λ (lookup, (sorted, _)) r. SomeCode (now lookup) (now sorted)) model-draw.Post (λ a r e. drew r)
-model-draw-settled _ _ _ _ _ _ _ h _ p q = takes-settled (p (h .code) (h .decodes)) (q (h .code) (h .decodes))
+pub short-draw-settled : SettledIf (λ (lookup, (sorted, _)) r. SomeCode (now lookup) (now sorted)) short-draw.Post (λ a r e. drew r)
+short-draw-settled _ _ _ _ _ _ _ h _ p q = takes-settled (p (h .code) (h .decodes)) (q (h .code) (h .decodes))

@@ -7,11 +7,10 @@ use Rattle.crn_format.specs.Codes.{Drawn, symbolAt, failed}
 use Rattle.crn_format.specs.Reading.{Want, aSymbol, aNumber}
 use Rattle.crn_symbol_codec.specs.Cursors.{place, Holds}
 use Rattle.crn_symbol_codec.specs.Taking.{Takes}
-use Rattle.crn_symbol_codec.specs.Decoders.{Decodes}
+use Rattle.crn_symbol_codec.specs.Decoders.{Decodes, SomeCode}
 use Rattle.crn_symbol_codec.specs.Drawing.{drew}
 use Rattle.crn_symbol_codec.specs.declared.Taken.{Taken}
 use Rattle.crn_symbol_codec.specs.declared.Taken.the-variants as taken
-use Rattle.crn_static_huffman_data_model.specs.Parts.{SomeCode}
 use Rattle.crn_reader.specs.Moving.{movedBy}
 use Rattle.crn_reader.specs.Pairs.{stepOf}
 use Rattle.crn_reader.specs.declared.Reader.{Reader}

@@ -15,11 +15,11 @@ use Rattle.crn_symbol_codec.specs.Cursors.{place}
 use Rattle.crn_symbol_codec.specs.Drawing.{drew}
 use Rattle.crn_symbol_codec.specs.declared.Cursor.{Cursor}
 use Rattle.crn_symbol_codec.specs.declared.Taken.{Taken}
-use Rattle.crn_static_huffman_data_model.specs.declared.Received.{Received}
-use Rattle.crn_static_huffman_data_model.specs.Receiving.{said, heldBy, Receives}
-use Rattle.crn_static_huffman_data_model.proofs.receive.Reads as receive
+use Rattle.crn_code_tables.specs.declared.Received.{Received}
+use Rattle.crn_code_tables.specs.Receiving.{said, heldBy, Receives}
+use Rattle.crn_code_tables.proofs.receive.Reads as receive
 use Rattle.crn_static_huffman_data_model.proofs.build.Reads as build
-use Rattle.crn_static_huffman_data_model.proofs.draw.Reads as draw
+use Rattle.crn_short_draw.proofs.draw.Reads as draw
 use Rattle.crn_laws_results.specs.Settled.{Settled, alike}
 use Rattle.crn_laws_results.specs.Seen.{receivedSeen}
 use Rattle.crn_laws_results.proofs.Steps.{got-tells, refused-tells, got-or-refused}

@@ -9,8 +9,8 @@ use Rattle.crn_format.specs.Grid.{painted, blank}
 use Rattle.crn_format.specs.declared.Table.{Table}
 use Rattle.crn_format.specs.declared.Grid.{Grid}
 use Rattle.crn_symbol_codec.specs.Cursors.{place}
-use Rattle.crn_static_huffman_data_model.specs.Receiving.{heldBy}
-use Rattle.crn_static_huffman_data_model.specs.declared.Received.{Received}
+use Rattle.crn_code_tables.specs.Receiving.{heldBy}
+use Rattle.crn_code_tables.specs.declared.Received.{Received}
 use Rattle.crn_chunks.specs.Meaning.{spending, stopped, runningOf}
 use Rattle.crn_unpacker.specs.declared.Went.{Went}
 use Rattle.crn_unpacker.specs.declared.Went.the-variants.{On, Stopped}

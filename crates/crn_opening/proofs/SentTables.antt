@@ -14,10 +14,10 @@ use Rattle.crn_format.specs.declared.Header.{Header}
 use Rattle.crn_format.proofs.Steps.{go-on, stop, answered}
 use Rattle.crn_symbol_codec.specs.Cursors.{place, Holds}
 use Rattle.crn_symbol_codec.specs.declared.Cursor.{Cursor}
-use Rattle.crn_static_huffman_data_model.specs.Receiving.{Receives}
-use Rattle.crn_static_huffman_data_model.specs.declared.Received.{Received}
-use Rattle.crn_static_huffman_data_model.proofs.Telling.{said-got, said-refused}
-use Rattle.crn_static_huffman_data_model.proofs.Putting.{table-none}
+use Rattle.crn_code_tables.specs.Receiving.{Receives}
+use Rattle.crn_code_tables.specs.declared.Received.{Received}
+use Rattle.crn_code_tables.proofs.Telling.{said-got, said-refused}
+use Rattle.crn_code_tables.proofs.Putting.{table-none}
 use Rattle.crn_opening.specs.SentTables.{Ends, tableIn, Pairs, unsent, told, sentOf}
 use Rattle.crn_opening.specs.declared.tables_segment.Pair.{Pair}
 use Rattle.crn_opening.specs.declared.tables_segment.Sent.{Sent}

@@ -1,6 +1,6 @@
 // The tables segment: the code tables of the file's levels (document 01, Codes), received into five lent arrays.
+use crn_code_tables::receive;
 use crn_format::Header;
-use crn_static_huffman_data_model::receive;
 use crn_symbol_codec::Cursor;
 ghost use mathlib.Core.Path.{_≡_};
 ghost use Prim.Native.Nat.{_<_};

@@ -6,9 +6,8 @@ use Rattle.crn_format.specs.Reading.{Reading, next, Step, refused, Place, spot,
 use Rattle.crn_format.specs.Tables.{table}
 use Rattle.crn_format.specs.Opening.{zeros}
 use Rattle.crn_symbol_codec.specs.Cursors.{place, Holds}
-use Rattle.crn_symbol_codec.specs.Decoders.{Decodes}
+use Rattle.crn_symbol_codec.specs.Decoders.{Decodes, SomeCode}
 use Rattle.crn_symbol_codec.specs.declared.Cursor.{Cursor}
-use Rattle.crn_static_huffman_data_model.specs.Parts.{SomeCode}
 use Rattle.crn_palettes.specs.Filling.{Fills, FillsFrom}
 use Rattle.crn_palettes.specs.Reaching.{Received}
 use Rattle.crn_palettes.specs.declared.Ended.{Ended}

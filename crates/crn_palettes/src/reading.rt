@@ -5,8 +5,8 @@ ghost use lib.ListN.{length};
 ghost use Rattle.crn_format.specs.Limits.{tooLong, maxSymbols};
 ghost use Rattle.crn_symbol_codec.specs.Cursors.{Holds};
 ghost use Rattle.crn_palettes.specs.Reaching.{Received};
+use crn_code_tables::receive;
 use crn_static_huffman_data_model::build;
-use crn_static_huffman_data_model::receive;
 use crn_symbol_codec::Cursor;
 
 // How many first bits of a code are looked up: 11, as `receive_decoder` requires room for.

@@ -3,8 +3,3 @@ pub mod Counting
 pub mod Sorting
 pub mod Filling
 pub mod Tabling
-pub mod Telling
-pub mod Sending
-pub mod Running
-pub mod Putting
-pub mod Receiving

@@ -1,3 +1,1 @@
 pub mod Building
-pub mod Receiving
-pub mod Parts

@@ -117,3 +117,8 @@ pub record Decodes (ls lookup sorted : List ℕ) : Type 0 where
   pub counts : Counts ls (countsIn lookup)
   pub ranks : Sorted ls sorted (length ls)
   pub last : longestIn lookup ≡ longest ls
+
+-- a decoder table of some code
+pub record SomeCode (lookup sorted : List ℕ) : Type 0 where
+  pub code : List ℕ
+  pub decodes : Decodes code lookup sorted

@@ -104,7 +104,7 @@ fn table(seg: &[u8], c: Cursor) -> State
         count: 0,
         lengths: [0; 8192],
     };
-    let r = crn_static_huffman_data_model::receive(seg, c, &mut t.lengths);
+    let r = crn_code_tables::receive(seg, c, &mut t.lengths);
     let k = r.refusal;
     let at = r.at;
     let d = r.cursor;

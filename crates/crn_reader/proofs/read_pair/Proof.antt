@@ -51,11 +51,10 @@ use Rattle.crn_format.specs.Limits.{tooLong}
 use Rattle.crn_format.specs.Reading.{aSymbol, aNumber, start, run as runs, fromBits}
 use Rattle.crn_symbol_codec.specs.Cursors.{place as placeOf, Holds}
 use Rattle.crn_symbol_codec.specs.Taking.{Takes}
-use Rattle.crn_symbol_codec.specs.Decoders.{Usable, Decodes}
+use Rattle.crn_symbol_codec.specs.Decoders.{Usable, Decodes, SomeCode}
 use Rattle.crn_symbol_codec.specs.declared.Taken.{Taken}
 use Rattle.crn_symbol_codec.proofs.Taken as S
 use Rattle.crn_symbol_codec.proofs.Taken.Laws as S′
-use Rattle.crn_static_huffman_data_model.specs.Parts.{SomeCode}
 use Rattle.crn_reader.specs.Moving.{movedBy}
 use Rattle.crn_reader.specs.Pairs.{pair, stepOf, pairOf}
 use Rattle.crn_reader.specs.declared.Reader.{Reader}

@@ -1,0 +1,5 @@
+pub mod Telling
+pub mod Sending
+pub mod Running
+pub mod Putting
+pub mod Receiving
