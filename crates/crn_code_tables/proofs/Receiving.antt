@@ -2,8 +2,8 @@
 use Prim.Native.Nat.{ℕ, _<_, _≤_}
 use mathlib.Core.Bool.{Bool, true, false}
 use mathlib.Core.List.{List, []}
-use mathlib.Core.Path.{_≡_, refl, ap, _∙_}
-use lib.ListN.{length, replicate}
+use mathlib.Core.Path.{_≡_, ap, _∙_}
+use lib.ListN.{replicate}
 use borrow.Author.Tests.{eq-eqb, ne-eqb, lt-ltb, le-ltb}
 use Rattle.crn_format.specs.Choice.{pick}
 use Rattle.crn_format.specs.Limits.{maxSymbols}

@@ -1,3 +1,4 @@
+pub mod Passing
 pub mod Room
 pub mod Counting
 pub mod Sorting

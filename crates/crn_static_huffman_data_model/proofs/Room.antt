@@ -78,6 +78,9 @@ pub room-more : (t : List ℕ) (n : ℕ) → room t (n + 1) ≡ room t n + pick 
 unfolding room
 room-more t n = ap (room t) (add-one n)
 
+pub room-skip : (t : List ℕ) (n : ℕ) → getD t n 0 ≡ 0 → room t (n + 1) ≡ room t n
+room-skip t n z = room-more t n ∙ simp (eq-eqb _ _ z) (omega arith)
+
 -- none of the symbols below n has a code, and they take no room
 record Empty (t : List ℕ) (n : ℕ) : Type 0 where
   none : (l : ℕ) → 0 < l → below t n l ≡ 0
