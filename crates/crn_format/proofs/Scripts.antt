@@ -16,22 +16,22 @@ use Rattle.crn_format.specs.Script.{taking, taken, Accepts, Stands, widt
 use Rattle.crn_format.proofs.Drawing.{draws, drawn-begins, drawn-short}
 
 -- a refusal is no answer
-never : {S A : Type 0} {n : ℕ} {w w₁ : S} {a : A} → refused n w ≡ got a w₁ → ⊥
-never e = let z : _≡_ {A = ℕ} 0 1 = cc in omega arith
+pub never : {S A X : Type 0} {n : ℕ} {w w₁ : S} {a : A} → refused n w ≡ got a w₁ → X
+never e = let z : _≡_ {A = ℕ} 0 1 = cc in absurd (omega arith)
 
 -- (a) a run that accepts, over any source, accepts as a script what it took, to its end, with the same answer
 pub replayed : {S A : Type 0} (src : Source S) (m : Reading A) (w : S) {w₁ : S} {a : A} → run src m w ≡ got a w₁
     → run fromScript m (taken src m w) ≡ got a []
 unfolding run taken then fromScript taking
 replayed src (answer b) w {w₁} {a} e = let z : b ≡ a = cc in ap (λ x. got x []) z
-replayed src (refuse n) w e = absurd (never e)
+replayed src (refuse n) w e = never e
 replayed {S} {A} src (want x f) w {w₁} {a} e = go (λ s w₂. replayed src (f s) w₂) (src .serve x w) e
   where
     go : ((s : ℕ) (w₂ : S) → run src (f s) w₂ ≡ got a w₁ → run fromScript (f s) (taken src (f s) w₂) ≡ got a [])
         → (y : Step S ℕ) → then y (λ s w₂. run src (f s) w₂) ≡ got a w₁
         → run fromScript (want x f) (taking y (λ s w₂. taken src (f s) w₂)) ≡ got a []
     go ih (got s w₂) e = ih s w₂ e
-    go ih (refused n w₂) e = absurd (never e)
+    go ih (refused n w₂) e = never e
 replayed src (mark m) w e = replayed src m (src .marked w) e
 
 -- what stands at a place is served there
@@ -46,8 +46,8 @@ pub followed : {A : Type 0} (seg : List ℕ) (m : Reading A) (ss : List ℕ) (w 
     → Laid seg m ss (w .at) → Accepts (fromBits seg) m w a ss
 unfolding run taken then fromScript taking Laid fromBits
 followed seg (answer b) ss w a e h = record { last = w; answers = (let z : b ≡ a = cc in ap (λ x. got x w) z); takes = (let z : ss ≡ [] = cc in sym z) }
-followed seg (refuse n) ss w a e h = absurd (never e)
-followed seg (want x f) [] w a e h = absurd (never e)
+followed seg (refuse n) ss w a e h = never e
+followed seg (want x f) [] w a e h = never e
 followed seg (want x f) (s ∷ ss) w a e h =
     let w₁ : Place = record { at = w .at + width x s; blamed = w .blamed } in
     let r = followed seg (f s) ss w₁ a e (h .1) in
@@ -91,7 +91,7 @@ afforded src (answer b) v {v₁} l {a} e h =
   where
     nil-less : (l : ℕ) → l - 0 ≡ l
     nil-less l = omega arith
-afforded src (refuse n) v l e h = absurd (never e)
+afforded src (refuse n) v l e h = never e
 afforded {A} src (want x f) v {v₁} l {a} e h = go (λ s w l. afforded src (f s) w l) (src .serve x v) refl e h
   where
     go : ((s : ℕ) (w : Place) (l : ℕ) → run src (f s) w ≡ got a v₁ → length (taken src (f s) w) ≤ l → Afforded src (f s) w v₁ l a)
@@ -106,7 +106,7 @@ afforded {A} src (want x f) v {v₁} l {a} e h = go (λ s w l. afforded src (f s
           answers = unfold charged in rw (q, some) (rw less at (r .answers));
           takes = unfold charged in rw (q, some) (ap (λ t. s ∷ t) (r .takes));
         }
-    go ih (refused n w) q e h = absurd (never e)
+    go ih (refused n w) q e h = never e
 afforded src (mark m) v l e h = let r = afforded src m (src .marked v) l e h in record { answers = r .answers; takes = r .takes }
 
 -- (b) under a budget: such a script is accepted where the budget is at least its length, and so many symbols are counted
@@ -135,7 +135,7 @@ module _ (seg : List ℕ) where
           let u : record { at = q; blamed = w .blamed } ≡ w₁ = cc in
           let b = rw z at (drawn-begins ls seg (w .at) y q d) in
           ((b .0, rw z at (drawn-short ls seg (w .at) y q d)), sym (ap (λ (p : Place). p .at) u) ∙ b .1)
-      go (failed n) d e = absurd (never e)
+      go (failed n) d e = never e
   at-got (aNumber n) w w₁ s e = go (decLe (w .at + n) (bitCount seg))
     where
       go : Dec (w .at + n ≤ bitCount seg) → ((w .at + n ≤ bitCount seg) × (spelled seg (w .at) n ≡ s)) × (w₁ .at ≡ w .at + n)

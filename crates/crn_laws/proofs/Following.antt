@@ -13,6 +13,7 @@ use Rattle.crn_format.specs.Codes.{codeOf, Begins}
 use Rattle.crn_format.specs.Reading.{aSymbol, aNumber, Reading, answer, refuse, want, mark, next, got, then, run, fromScript}
 use Rattle.crn_format.specs.Script.{Stands, width, Laid, bitsOf, written, laidOut, Writable, AllWritable, Starts}
 use Rattle.crn_format.proofs.Drawing.{bit-lt}
+use Rattle.crn_format.proofs.Writing.{long}
 use Rattle.crn_laws.specs.Scripts.{Sent, symbols, bits, AllCoded}
 
 unfoldable pub Follows : {A : Type 0} → Reading A → List Sent → A → Type 0
@@ -77,11 +78,6 @@ follow-writable (want (aNumber n) f) ss a h w = absurd h
 follow-writable (mark m) ss a h w = follow-writable m ss a h w
 
 -- ---- what stands in the bits begins them
-
-long : (n v : ℕ) → length (bitsOf n v) ≡ n
-unfolding bitsOf
-long zero v = refl
-long (suc n) v = simp length-append (omega (arith, long n (v / 2)))
 
 joined : (seg : List ℕ) (p : ℕ) (a b : List ℕ) → Starts seg p a → Starts seg (p + length a) b → Starts seg p (a ++ b)
 joined seg p a b h g =

@@ -11,14 +11,11 @@ use Rattle.crn_format.specs.Choice.{pick, not, either}
 use Rattle.crn_format.specs.Limits.{chunkSymbols}
 use Rattle.crn_format.specs.Reading.{Reading, answer, refuse, next, symbol, Step, got, refused, then, Source, run, fromScript}
 use Rattle.crn_format.specs.Level.{Plane, stepped, endpointIndex, selectorIndex, endpointIndices, planeEndpoints, planeSelectors, positionSelectors, tileCounts, encoding, Running, Chunk, lasts, lastRow, chunk, chunks, fresh, level}
+use Rattle.crn_format.proofs.Scripts.{never}
 use Rattle.crn_format.proofs.Steps.{run-next}
 use Rattle.crn_laws.specs.Scripts.{Sent, symbols, Draws, inCode, endpointsSent, positionSent, selectorsSent, chunkSent, levelSent, encodings, indices, endpointsOf, selectorsAt, selectorsOf, chunkBy, after, SymbolFits, AllBelow, EndpointsFit, PositionFits, SelectorsFit, ChunkFits, Fits}
 
 -- ---- a run that went through
-
--- a refusal is no answer
-never : {S A X : Type 0} {n : ℕ} {w v : S} {a : A} → refused n w ≡ got a v → X
-never e = let z : _≡_ {A = ℕ} 0 1 = cc in absurd (omega arith)
 
 -- of one reading and then another
 record Went {S A B : Type 0} (src : Source S) (m : Reading A) (k : A → Reading B) (w : S) (b : B) (v : S) : Type 0 where
