@@ -1,7 +1,8 @@
-// What checks of a header are made of: the limits, conditions put together, and which planes a format has.
+// What checks of a header are made of: the limits, conditions put together, and which planes a format has. And a record by its parts.
 mod limits; // the limits of document 01
 mod conditions; // conditions put together
 mod formats; // which planes a format has
+mod records; // a record by its parts
 
 pub use conditions::between;
 pub use conditions::implies;
@@ -14,3 +15,4 @@ pub use limits::MAX_LEVELS;
 pub use limits::MAX_SIDE;
 pub use limits::MIN_SIZE;
 pub use limits::TOO_LONG;
+pub use records::Counts;

@@ -1,4 +1,4 @@
--- The entry crate's two functions: the answer, the buffers, the budget and the destination are fixed.
+-- The entry crate's functions: the answer, the buffers, the budget and the destination are fixed.
 use Prim.Native.Nat.{ℕ}
 use mathlib.Core.Path.{_≡_, ap}
 use mathlib.Core.List.{List}
@@ -13,6 +13,7 @@ use Rattle.crn_level.specs.Unpacks.{answerOf, symbolsOf, Unpacks}
 use Rattle.crn_level.specs.declared.Unpacked.{Unpacked}
 use Rattle.crn_level.specs.declared.Unpacked.the-variants.{Blocks, Refused}
 use Rattle.crn_level.proofs.unpack_level.Reads as unpack-level
+use Rattle.crn_level.proofs.unpack_level_by.Reads as unpack-level-by
 use Rattle.crn_laws_results.specs.Settled.{Settled, alike, alike₂}
 
 pub open-settled : Settled {X = Opened × Palettes} opening.Post (λ a r (file, (ce, (cs, (ae, (al, _))))). (r, lentOf (now ce) (now cs) (now ae) (now al)))
@@ -41,3 +42,8 @@ unpacks-settled {left₁ = m} {left₂ = n} {d = d} {e = e} {r = r} {s = s} p q 
 pub unpack-level-settled : Settled {X = Unpacked × (ℕ × List ℕ)} unpack-level.Post
     (λ a r (file, (bytes, (ce, (cs, (ae, (al, (level, (pitch, (distance, (budget, (dst, _))))))))))). (r, (now budget, now dst)))
 unpack-level-settled _ _ _ _ _ _ _ p q = unpacks-settled p q
+
+pub unpack-level-by-settled : Settled {X = Unpacked × (ℕ × List ℕ)} unpack-level-by.Post
+    (λ a r (header, (counts, (t₁, (t₂, (t₃, (t₄, (t₅, (bytes, (ce, (cs, (ae, (al, (level, (pitch, (distance, (budget, (dst, _))))))))))))))))).
+    (r, (now budget, now dst)))
+unpack-level-by-settled _ _ _ _ _ _ _ p q = unpacks-settled p q

@@ -13,7 +13,7 @@ use Rattle.crn_chunks.specs.Meaning.{Coded}
 use Rattle.crn_chunks.specs.declared.Planes.{Planes}
 use Rattle.crn_unpacker.specs.Going.{given, Fit}
 use Rattle.crn_level.specs.declared.decoders.Sizes.{Sizes}
-use Rattle.crn_level.specs.declared.decoders.Counts.{Counts}
+use Rattle.crn_formats.specs.declared.records.Counts.{Counts}
 use Rattle.crn_level.specs.declared.Unpacked.{Unpacked}
 use Rattle.crn_level.specs.Tables.{Able, countsOf, CodedTo, codesBy, tablesIn}
 use Rattle.crn_level.specs.Planning.{planesBy, planesFor}

@@ -17,7 +17,7 @@ use Rattle.crn_format.specs.declared.Table.{Table}
 use Rattle.crn_format.specs.declared.Tables.{Tables}
 use Rattle.crn_symbol_codec.specs.Decoders.{Decodes}
 use Rattle.crn_level.specs.declared.decoders.Sizes.{Sizes}
-use Rattle.crn_level.specs.declared.decoders.Counts.{Counts}
+use Rattle.crn_formats.specs.declared.records.Counts.{Counts}
 use Rattle.crn_level.specs.Tables.{countsOf, Few, Long, Fair, AllFair, Able, part, CodedTo, codesBy, tablesIn}
 use Rattle.crn_format.proofs.Choices.{both-hold}
 use Rattle.crn_level.proofs.Parts.{further, part-here, part-before}

@@ -1,4 +1,5 @@
 // The decoder tables of a level, one after another in two lent arrays: the chunk symbols', the alpha plane's two, the colour plane's two.
+pub use crn_formats::Counts;
 use crn_static_huffman_data_model::build;
 ghost use mathlib.Core.Path.{_≡_};
 ghost use mathlib.Core.List.{List};
@@ -11,15 +12,6 @@ pub struct Sizes {
     pub most: u64,
     pub lookup_step: usize,
     pub sorted_step: usize,
-}
-
-// How many symbols each of the five tables of a record is for.
-pub struct Counts {
-    pub chunk: u32,
-    pub color_ends: u32,
-    pub color_sels: u32,
-    pub alpha_ends: u32,
-    pub alpha_sels: u32,
 }
 
 // Table number k, of the first `count` lengths. Those before it stay.

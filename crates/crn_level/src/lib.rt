@@ -6,6 +6,7 @@ mod drawing; // the level
 mod unpacking; // the checks before it
 
 pub use unpacking::unpack_level;
+pub use unpacking::unpack_level_by;
 
 // The symbols drawn and the cut-outs; or the refusal, the symbols drawn, and the bit that it names (0 before the first draw).
 pub enum Unpacked {

@@ -1,13 +1,13 @@
 // Unpacking a level: "2, 6, 10, 4, 5, 11, 12, all before the first draw and with the destination untouched, then the stream"
 // (document 01, Refusal numbers).
 use crate::Unpacked;
-use crate::decoders::Counts;
 use crate::drawing::draw_level;
 use crate::table_checks::tables_hold;
 use crn_bounds::within_limits;
 use crn_format::Grid;
 use crn_format::Header;
 use crn_format::Record;
+use crn_formats::Counts;
 use crn_formats::block_bytes;
 use crn_grid::columns_of;
 use crn_grid::grid_fits;
@@ -24,6 +24,7 @@ ghost use lib.ListN.{length};
 ghost use Rattle.crn_format.specs.Limits.{tooLong};
 ghost use Rattle.crn_format.specs.Unpacking.{levelStands, levelSegment, gridOf, unpacking as «unpackingOf»};
 ghost use Rattle.crn_formats.specs.Lent.{lentOf};
+ghost use Rattle.crn_formats.specs.Records.{recordBy};
 ghost use Rattle.crn_level.specs.Unpacks.{Unpacks};
 ghost use Rattle.crn_level.specs.Refusals.{firstFailed, refusalBy};
 
@@ -118,9 +119,16 @@ fn segment_of(file: &[u8], h: Header, level: u32) -> &[u8]
     &file[start..end]
 }
 
-// A level, all faces, into the lent destination; the budget is counted down by the symbols drawn.
-pub fn unpack_level(
-    record: Record,
+// A level, all faces, into the lent destination; the budget is counted down by the symbols drawn. The record comes by its parts, with the
+// lengths of its tables lent: a record is too large to be copied at each level.
+pub fn unpack_level_by<'a>(
+    header: Header,
+    counts: Counts,
+    chunk: &'a [u8; 8192],
+    color_ends: &'a [u8; 8192],
+    color_sels: &'a [u8; 8192],
+    alpha_ends: &'a [u8; 8192],
+    alpha_sels: &'a [u8; 8192],
     file: &[u8],
     color_endpoints: &[u32],
     color_selectors: &[u32],
@@ -132,26 +140,18 @@ pub fn unpack_level(
     budget: &mut u64,
     dst: &mut [u8],
 ) -> Unpacked
-    ensures { λ r. ⌜ Unpacks («unpackingOf» «record» (now (file .entry)) (lentOf (now («color_endpoints» .entry)) (now («color_selectors» .entry)) (now («alpha_endpoints» .entry)) (now («alpha_selectors» .entry))) level pitch distance (now (budget .entry)) (now (dst .entry))) (now (budget .entry)) (now (budget .exit)) (now (dst .exit)) r ⌝ }
+    ensures { λ r. ⌜ Unpacks («unpackingOf» (recordBy header counts (now (chunk .entry)) (now («color_ends» .entry)) (now («color_sels» .entry)) (now («alpha_ends» .entry)) (now («alpha_sels» .entry))) (now (file .entry)) (lentOf (now («color_endpoints» .entry)) (now («color_selectors» .entry)) (now («alpha_endpoints» .entry)) (now («alpha_selectors» .entry))) level pitch distance (now (budget .entry)) (now (dst .entry))) (now (budget .entry)) (now (budget .exit)) (now (dst .exit)) r ⌝ }
 {
-    let h = record.header;
-    let counts = Counts {
-        chunk: record.tables.chunk_encoding.count,
-        color_ends: record.tables.color_endpoint_delta.count,
-        color_sels: record.tables.color_selector_delta.count,
-        alpha_ends: record.tables.alpha_endpoint_delta.count,
-        alpha_sels: record.tables.alpha_selector_delta.count,
-    };
     let tables = tables_hold(
         counts,
-        &record.tables.chunk_encoding.lengths,
-        &record.tables.color_endpoint_delta.lengths,
-        &record.tables.color_selector_delta.lengths,
-        &record.tables.alpha_endpoint_delta.lengths,
-        &record.tables.alpha_selector_delta.lengths,
+        chunk,
+        color_ends,
+        color_sels,
+        alpha_ends,
+        alpha_sels,
     );
     let number = refusal(
-        h,
+        header,
         tables,
         file,
         color_endpoints,
@@ -170,21 +170,66 @@ pub fn unpack_level(
             at: 0,
         };
     }
-    let g = grid_of(h, level, pitch, distance);
+    let g = grid_of(header, level, pitch, distance);
     draw_level(
-        h,
+        header,
+        counts,
+        chunk,
+        color_ends,
+        color_sels,
+        alpha_ends,
+        alpha_sels,
+        segment_of(file, header, level),
+        color_endpoints,
+        color_selectors,
+        alpha_endpoints,
+        alpha_selectors,
+        g,
+        budget,
+        dst,
+    )
+}
+
+// The same of a record that is handed over whole.
+pub fn unpack_level(
+    record: Record,
+    file: &[u8],
+    color_endpoints: &[u32],
+    color_selectors: &[u32],
+    alpha_endpoints: &[u16],
+    alpha_selectors: &[u16],
+    level: u32,
+    pitch: usize,
+    distance: usize,
+    budget: &mut u64,
+    dst: &mut [u8],
+) -> Unpacked
+    ensures { λ r. ⌜ Unpacks («unpackingOf» «record» (now (file .entry)) (lentOf (now («color_endpoints» .entry)) (now («color_selectors» .entry)) (now («alpha_endpoints» .entry)) (now («alpha_selectors» .entry))) level pitch distance (now (budget .entry)) (now (dst .entry))) (now (budget .entry)) (now (budget .exit)) (now (dst .exit)) r ⌝ }
+{
+    let header = record.header;
+    let counts = Counts {
+        chunk: record.tables.chunk_encoding.count,
+        color_ends: record.tables.color_endpoint_delta.count,
+        color_sels: record.tables.color_selector_delta.count,
+        alpha_ends: record.tables.alpha_endpoint_delta.count,
+        alpha_sels: record.tables.alpha_selector_delta.count,
+    };
+    unpack_level_by(
+        header,
         counts,
         &record.tables.chunk_encoding.lengths,
         &record.tables.color_endpoint_delta.lengths,
         &record.tables.color_selector_delta.lengths,
         &record.tables.alpha_endpoint_delta.lengths,
         &record.tables.alpha_selector_delta.lengths,
-        segment_of(file, h, level),
+        file,
         color_endpoints,
         color_selectors,
         alpha_endpoints,
         alpha_selectors,
-        g,
+        level,
+        pitch,
+        distance,
         budget,
         dst,
     )
