@@ -1,4 +1,4 @@
--- The entry crate's functions: the answer, the buffers, the budget and the destination are fixed.
+-- The entry crate's functions: the answer, the buffers, the tables, the budget and the destination are fixed.
 use Prim.Native.Nat.{ℕ}
 use mathlib.Core.Path.{_≡_, ap}
 use mathlib.Core.List.{List}
@@ -8,7 +8,9 @@ use Rattle.crn_format.specs.Opening.{Palettes}
 use Rattle.crn_format.specs.Unpacking.{Unpacking}
 use Rattle.crn_formats.specs.Lent.{lentOf}
 use Rattle.crn_opening.specs.declared.opening.Opened.{Opened}
+use Rattle.crn_opening.specs.Opens.{openedBy}
 use Rattle.crn_opening.proofs.«open».Reads as opening
+use Rattle.crn_opening.proofs.open_into.Reads as open-into
 use Rattle.crn_level.specs.Unpacks.{answerOf, symbolsOf, Unpacks}
 use Rattle.crn_level.specs.declared.Unpacked.{Unpacked}
 use Rattle.crn_level.specs.declared.Unpacked.the-variants.{Blocks, Refused}
@@ -18,6 +20,11 @@ use Rattle.crn_laws_results.specs.Settled.{Settled, alike, alike₂}
 
 pub open-settled : Settled {X = Opened × Palettes} opening.Post (λ a r (file, (ce, (cs, (ae, (al, _))))). (r, lentOf (now ce) (now cs) (now ae) (now al)))
 open-settled _ _ _ _ _ _ _ p q = alike₂ (p .answer) (q .answer) (p .leaves) (q .leaves)
+
+pub open-into-settled : Settled {X = Opened × Palettes} open-into.Post
+    (λ a r (file, (ce, (cs, (ae, (al, (t₁, (t₂, (t₃, (t₄, (t₅, _)))))))))).
+    (openedBy r (now t₁) (now t₂) (now t₃) (now t₄) (now t₅), lentOf (now ce) (now cs) (now ae) (now al)))
+open-into-settled _ _ _ _ _ _ _ p q = alike₂ (p .answer) (q .answer) (p .leaves) (q .leaves)
 
 -- ---- a level
 

@@ -9,18 +9,20 @@ use borrow.Author.Tests.{eq-eqb}
 use Rattle.crn_format.specs.Choice.{pick}
 use Rattle.crn_format.specs.Reading.{start, run, fromBits}
 use Rattle.crn_format.specs.Header.{signed, headerOf, withinLimits, sizesHold}
-use Rattle.crn_format.specs.Opening.{Palettes, Opening, opened, shut, segment, zeroed, segmentsStand, roomFor, sentTables, streams, opening}
+use Rattle.crn_format.specs.Opening.{Palettes, Opening, opened, shut, segment, zeroed, segmentsStand, roomFor, sentTables, tablesOf, streams, opening}
 use Rattle.crn_format.specs.declared.Header.{Header}
 use Rattle.crn_format.specs.declared.Record.{Record}
+use Rattle.crn_formats.specs.Records.{tablesBy}
 use Rattle.crn_decomp.specs.Look.{found, no, lookOf}
 use Rattle.crn_decomp.specs.declared.header_look.Looked.{Looked}
 use Rattle.crn_decomp.proofs.LookAndOpen.{afterLook, look-refuses, look-goes-on}
 use Rattle.crn_palettes.specs.declared.Ended.{Ended}
 use Rattle.crn_opening.specs.declared.opening.Opened.{Opened}
+use Rattle.crn_opening.specs.declared.opening.OpenedHeader.{OpenedHeader}
 use Rattle.crn_opening.specs.declared.tables_segment.Sent.{Sent}
-use Rattle.crn_opening.specs.SentTables.{Told, tablesIn, told, sentOf}
+use Rattle.crn_opening.specs.SentTables.{AllZero, Told, told, sentOf}
 use Rattle.crn_opening.specs.Loading.{Passed, PalettesEnd}
-use Rattle.crn_opening.specs.Opens.{closed, toOpened, buffersOf, Opens}
+use Rattle.crn_opening.specs.Opens.{refusedHeader, openedBy, closed, toOpened, buffersOf, Opens}
 use Rattle.crn_opening.proofs.Loading.{cleared, on, off, tables-stop, tables-read}
 
 -- ---- an opening that is known
@@ -31,6 +33,11 @@ module _ {o : Opening} {after : Palettes} where
 
   pub is-opened : {file : Record} → o ≡ opened file after → Opens o after (record { refusal = 0; at = 0; file = file })
   is-opened e = record { answer = ap toOpened (sym e); leaves = ap buffersOf (sym e) }
+
+-- a refusal by its parts
+pub closed-by : {n bit : ℕ} {r : OpenedHeader} {a b c d e : List ℕ} → r ≡ refusedHeader n bit → AllZero a b c d e → openedBy r a b c d e ≡ closed n bit
+unfolding tablesOf
+closed-by is none = rw (is, none .first, none .colorE, none .colorS, none .alphaE, none .alphaS)
 
 -- ---- the streams
 
@@ -56,7 +63,7 @@ module _ (file : List ℕ) (h : Header) (lent : Palettes) {sent : Told}
 module _ (file : List ℕ) (h : Header) (lent : Palettes) (sent : Sent) (a b c d f : List ℕ)
     (e : told sent a b c d f ≡ sentOf (run (fromBits (segment file (h .«tables_offset») (h .«tables_size»))) (sentTables h) start)) where
   pub streams-told : sent .refusal ≡ 0 → {after : Palettes} {ended : Ended} → PalettesEnd file h lent after ended → ended .refusal ≡ 0
-      → Opens (streams file lent h) after (record { refusal = 0; at = 0; file = record { header = h; tables = tablesIn sent a b c d f } })
+      → Opens (streams file lent h) after (record { refusal = 0; at = 0; file = record { header = h; tables = tablesBy (sent .counts) a b c d f } })
   streams-told z p y = rw (eq-eqb (sent .refusal) 0 z) at (streams-read file h lent e z p y)
 
 -- ---- the checks, and then the streams

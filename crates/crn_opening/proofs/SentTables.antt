@@ -12,13 +12,14 @@ use Rattle.crn_format.specs.Opening.{Lengths, present, planeTables, sentTables,
 use Rattle.crn_format.specs.Unpacking.{lengthsOf}
 use Rattle.crn_format.specs.declared.Header.{Header}
 use Rattle.crn_format.proofs.Steps.{go-on, stop, answered}
+use Rattle.crn_formats.specs.Records.{tableBy}
 use Rattle.crn_symbol_codec.specs.Cursors.{place, Holds}
 use Rattle.crn_symbol_codec.specs.declared.Cursor.{Cursor}
 use Rattle.crn_code_tables.specs.Receiving.{Receives}
 use Rattle.crn_code_tables.specs.declared.Received.{Received}
 use Rattle.crn_code_tables.proofs.Telling.{said-got, said-refused}
 use Rattle.crn_code_tables.proofs.Putting.{table-none}
-use Rattle.crn_opening.specs.SentTables.{Ends, tableIn, Pairs, unsent, told, sentOf}
+use Rattle.crn_opening.specs.SentTables.{Ends, Pairs, unsent, told, sentOf}
 use Rattle.crn_opening.specs.declared.tables_segment.Pair.{Pair}
 use Rattle.crn_opening.specs.declared.tables_segment.Sent.{Sent}
 
@@ -33,11 +34,11 @@ module _ {A B : Type 0} {seg : List ℕ} {m : Reading A} {c : Cursor} {k at : �
 
 -- a table that was received
 module _ {seg : List ℕ} {c : Cursor} {r : Received} {ls : List ℕ} (e : Receives seg c r ls) where
-  pub received : Ends seg table c (r .refusal) (r .at) (r .cursor) (lengthsOf (tableIn (r .count) ls))
+  pub received : Ends seg table c (r .refusal) (r .at) (r .cursor) (lengthsOf (tableBy (r .count) ls))
   received =
       record {
         blamed = λ b. e .blamed;
-        goes = λ z b. e .same b ∙ said-got _ _ _ _ z ∙ ap (λ (p : ℕ). got (lengthsOf (tableIn (r .count) ls)) (spot p (e .blamed))) (sym (e .goes z .1));
+        goes = λ z b. e .same b ∙ said-got _ _ _ _ z ∙ ap (λ (p : ℕ). got (lengthsOf (tableBy (r .count) ls)) (spot p (e .blamed))) (sym (e .goes z .1));
         holds = λ z. e .goes z .0;
         stops = λ z b. e .same b ∙ said-refused _ _ _ _ z;
       }
@@ -119,11 +120,13 @@ module _ {seg : List ℕ} (h : Header) {c : Cursor} (first : place c ≡ 0) {chu
           → told (record {
             refusal = 0;
             at = 0;
-            chunk = chunk .count;
-            «color_endpoints» = color .endpoints;
-            «color_selectors» = color .selectors;
-            «alpha_endpoints» = alpha .endpoints;
-            «alpha_selectors» = alpha .selectors;
+            counts = record {
+              chunk = chunk .count;
+              «color_ends» = color .endpoints;
+              «color_sels» = color .selectors;
+              «alpha_ends» = alpha .endpoints;
+              «alpha_sels» = alpha .selectors;
+            };
           }) a ce cs ae al ≡ sentOf (run (fromBits seg) (sentTables h) start)
       unfolding sentTables sent tablesOf
       all-sent x =

@@ -1,11 +1,14 @@
 -- What opening a file answers, and what the four lent buffers then hold.
 use Prim.Native.Nat.{ℕ}
 use mathlib.Core.Path.{_≡_}
+use mathlib.Core.List.{List}
 use Rattle.crn_format.specs.Opening.{Palettes, Opening, opened, shut, tablesOf}
 use Rattle.crn_format.specs.declared.Record.{Record}
+use Rattle.crn_formats.specs.Records.{recordBy}
 use Rattle.crn_decomp.specs.Look.{emptyHeader}
-use Rattle.crn_opening.specs.SentTables.{noLengths}
+use Rattle.crn_opening.specs.SentTables.{noLengths, noCounts}
 use Rattle.crn_opening.specs.declared.opening.Opened.{Opened}
+use Rattle.crn_opening.specs.declared.opening.OpenedHeader.{OpenedHeader}
 
 -- what a refusal gives for a file
 abbrev pub emptyRecord : Record
@@ -13,6 +16,15 @@ emptyRecord = record { header = emptyHeader; tables = tablesOf noLengths }
 
 abbrev pub closed : ℕ → ℕ → Opened
 closed n bit = record { refusal = n; at = bit; file = emptyRecord }
+
+-- the same by the record's parts
+abbrev pub refusedHeader : ℕ → ℕ → OpenedHeader
+refusedHeader n bit = record { refusal = n; at = bit; header = emptyHeader; counts = noCounts }
+
+-- an answer with the tables' lengths, which are in lent arrays
+abbrev pub openedBy : OpenedHeader → List ℕ → List ℕ → List ℕ → List ℕ → List ℕ → Opened
+openedBy r chunk colorEnds colorSels alphaEnds alphaSels =
+    record { refusal = r .refusal; at = r .at; file = recordBy (r .header) (r .counts) chunk colorEnds colorSels alphaEnds alphaSels }
 
 abbrev pub toOpened : Opening → Opened
 toOpened (opened file after) = record { refusal = 0; at = 0; file = file }

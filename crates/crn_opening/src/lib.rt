@@ -4,4 +4,6 @@ mod palettes; // the four palettes
 mod opening; // the whole opening
 
 pub use opening::Opened;
+pub use opening::OpenedHeader;
 pub use opening::open;
+pub use opening::open_into;

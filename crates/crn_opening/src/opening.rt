@@ -1,22 +1,24 @@
 // Opening a file: the header look, the segments and the lent buffers, then the streams (document 01, Refusal numbers).
 use crate::palettes::read_palettes;
 use crate::palettes::segment;
+use crate::tables_segment::no_counts;
 use crate::tables_segment::read_tables;
 use crn_decomp::look;
 use crn_format::Header;
 use crn_format::Record;
 use crn_format::Table;
 use crn_format::Tables;
+use crn_formats::Counts;
 use crn_palettes::clear16;
 use crn_palettes::clear32;
 use crn_segments::room_for;
 use crn_segments::segments_stand;
 ghost use mathlib.Core.Path.{_≡_};
-ghost use Rattle.crn_format.specs.Opening.{tablesOf, streams, opening as «openingOf», zeroed};
+ghost use Rattle.crn_format.specs.Opening.{streams, opening as «openingOf», zeroed};
 ghost use Rattle.crn_formats.specs.Lent.{lentOf};
-ghost use Rattle.crn_opening.specs.SentTables.{noLengths};
+ghost use Rattle.crn_opening.specs.SentTables.{AllZero};
 ghost use Rattle.crn_opening.specs.Loading.{Passed};
-ghost use Rattle.crn_opening.specs.Opens.{emptyRecord, closed, Opens};
+ghost use Rattle.crn_opening.specs.Opens.{refusedHeader, openedBy, Opens};
 
 // Refusal 0 with the opened file; else the refusal, the bit that it names (0 before the streams), and the empty record.
 #[repr(C)]
@@ -26,45 +28,45 @@ pub struct Opened {
     pub file: Record,
 }
 
-fn empty_tables() -> Tables
-    ensures { λ r. ⌜ r ≡ tablesOf noLengths ⌝ }
-{
-    let none = Table {
-        count: 0,
-        lengths: [0; 8192],
-    };
-    Tables {
-        chunk_encoding: none,
-        color_endpoint_delta: none,
-        color_selector_delta: none,
-        alpha_endpoint_delta: none,
-        alpha_selector_delta: none,
-    }
+// The same without the tables' lengths, which are left in lent arrays.
+#[repr(C)]
+pub struct OpenedHeader {
+    pub refusal: u32,
+    pub at: usize,
+    pub header: Header,
+    pub counts: Counts,
 }
 
-// All zero. The look at no bytes gives the empty header.
-fn empty_record() -> Record
-    ensures { λ r. ⌜ r ≡ emptyRecord ⌝ }
+// A refusal, with the bit that it names. The look at no bytes gives the empty header.
+fn refused(refusal: u32, at: usize) -> OpenedHeader
+    ensures { λ r. ⌜ r ≡ refusedHeader refusal at ⌝ }
 {
     let none = look(b"");
     let header = none.header;
-    let tables = empty_tables();
-    Record {
+    let counts = no_counts();
+    OpenedHeader {
+        refusal: refusal,
+        at: at,
         header: header,
-        tables: tables,
+        counts: counts,
     }
 }
 
-// A refusal, with the bit that it names.
-fn refused(refusal: u32, at: usize) -> Opened
-    ensures { λ r. ⌜ r ≡ closed refusal at ⌝ }
+// No lengths in any of the five tables.
+fn clear_tables(
+    chunk: &mut [u8; 8192],
+    color_ends: &mut [u8; 8192],
+    color_sels: &mut [u8; 8192],
+    alpha_ends: &mut [u8; 8192],
+    alpha_sels: &mut [u8; 8192],
+)
+    ensures { λ _. ⌜ AllZero (now (chunk .exit)) (now («color_ends» .exit)) (now («color_sels» .exit)) (now («alpha_ends» .exit)) (now («alpha_sels» .exit)) ⌝ }
 {
-    let file = empty_record();
-    Opened {
-        refusal: refusal,
-        at: at,
-        file: file,
-    }
+    *chunk = [0; 8192];
+    *color_ends = [0; 8192];
+    *color_sels = [0; 8192];
+    *alpha_ends = [0; 8192];
+    *alpha_sels = [0; 8192];
 }
 
 // "Later, all four lent buffers zero."
@@ -90,23 +92,24 @@ fn load(
     color_selectors: &mut [u32],
     alpha_endpoints: &mut [u16],
     alpha_selectors: &mut [u16],
-) -> Opened
+    chunk: &mut [u8; 8192],
+    color_ends: &mut [u8; 8192],
+    color_sels: &mut [u8; 8192],
+    alpha_ends: &mut [u8; 8192],
+    alpha_sels: &mut [u8; 8192],
+) -> OpenedHeader
     requires { ⌜ Passed (now file) h (lentOf (now «color_endpoints») (now «color_selectors») (now «alpha_endpoints») (now «alpha_selectors»)) ⌝ }
-    ensures { λ r. ⌜ Opens (streams (now (file .entry)) (lentOf (now («color_endpoints» .entry)) (now («color_selectors» .entry)) (now («alpha_endpoints» .entry)) (now («alpha_selectors» .entry))) h) (lentOf (now («color_endpoints» .exit)) (now («color_selectors» .exit)) (now («alpha_endpoints» .exit)) (now («alpha_selectors» .exit))) r ⌝ }
+    requires { ⌜ AllZero (now chunk) (now «color_ends») (now «color_sels») (now «alpha_ends») (now «alpha_sels») ⌝ }
+    ensures { λ r. ⌜ Opens (streams (now (file .entry)) (lentOf (now («color_endpoints» .entry)) (now («color_selectors» .entry)) (now («alpha_endpoints» .entry)) (now («alpha_selectors» .entry))) h) (lentOf (now («color_endpoints» .exit)) (now («color_selectors» .exit)) (now («alpha_endpoints» .exit)) (now («alpha_selectors» .exit))) (openedBy r (now (chunk .exit)) (now («color_ends» .exit)) (now («color_sels» .exit)) (now («alpha_ends» .exit)) (now («alpha_sels» .exit))) ⌝ }
 {
-    let mut chunk = [0u8; 8192];
-    let mut color_ends = [0u8; 8192];
-    let mut color_sels = [0u8; 8192];
-    let mut alpha_ends = [0u8; 8192];
-    let mut alpha_sels = [0u8; 8192];
     let sent = read_tables(
         segment(file, h.tables_offset, h.tables_size),
         h,
-        &mut chunk,
-        &mut color_ends,
-        &mut color_sels,
-        &mut alpha_ends,
-        &mut alpha_sels,
+        chunk,
+        color_ends,
+        color_sels,
+        alpha_ends,
+        alpha_sels,
     );
     if sent.refusal != 0 {
         clear(
@@ -115,6 +118,7 @@ fn load(
             alpha_endpoints,
             alpha_selectors,
         );
+        clear_tables(chunk, color_ends, color_sels, alpha_ends, alpha_sels);
         return refused(sent.refusal, sent.at);
     }
     let ended = read_palettes(
@@ -132,51 +136,35 @@ fn load(
             alpha_endpoints,
             alpha_selectors,
         );
+        clear_tables(chunk, color_ends, color_sels, alpha_ends, alpha_sels);
         return refused(ended.refusal, ended.at);
     }
-    let tables = Tables {
-        chunk_encoding: Table {
-            count: sent.chunk,
-            lengths: chunk,
-        },
-        color_endpoint_delta: Table {
-            count: sent.color_endpoints,
-            lengths: color_ends,
-        },
-        color_selector_delta: Table {
-            count: sent.color_selectors,
-            lengths: color_sels,
-        },
-        alpha_endpoint_delta: Table {
-            count: sent.alpha_endpoints,
-            lengths: alpha_ends,
-        },
-        alpha_selector_delta: Table {
-            count: sent.alpha_selectors,
-            lengths: alpha_sels,
-        },
-    };
-    let opened = Record {
-        header: h,
-        tables: tables,
-    };
-    Opened {
+    let counts = sent.counts;
+    OpenedHeader {
         refusal: 0,
         at: 0,
-        file: opened,
+        header: h,
+        counts: counts,
     }
 }
 
-// A file opened with four lent buffers: "1, 2, 3, 4 for every segment it reads, 5, then the stream".
-pub fn open(
+// A file opened with four lent buffers: "1, 2, 3, 4 for every segment it reads, 5, then the stream". The tables' lengths go into five lent
+// arrays, whatever these held: a record is too large to be handed back.
+pub fn open_into(
     file: &[u8],
     color_endpoints: &mut [u32],
     color_selectors: &mut [u32],
     alpha_endpoints: &mut [u16],
     alpha_selectors: &mut [u16],
-) -> Opened
-    ensures { λ r. ⌜ Opens («openingOf» (now (file .entry)) (lentOf (now («color_endpoints» .entry)) (now («color_selectors» .entry)) (now («alpha_endpoints» .entry)) (now («alpha_selectors» .entry)))) (lentOf (now («color_endpoints» .exit)) (now («color_selectors» .exit)) (now («alpha_endpoints» .exit)) (now («alpha_selectors» .exit))) r ⌝ }
+    chunk: &mut [u8; 8192],
+    color_ends: &mut [u8; 8192],
+    color_sels: &mut [u8; 8192],
+    alpha_ends: &mut [u8; 8192],
+    alpha_sels: &mut [u8; 8192],
+) -> OpenedHeader
+    ensures { λ r. ⌜ Opens («openingOf» (now (file .entry)) (lentOf (now («color_endpoints» .entry)) (now («color_selectors» .entry)) (now («alpha_endpoints» .entry)) (now («alpha_selectors» .entry)))) (lentOf (now («color_endpoints» .exit)) (now («color_selectors» .exit)) (now («alpha_endpoints» .exit)) (now («alpha_selectors» .exit))) (openedBy r (now (chunk .exit)) (now («color_ends» .exit)) (now («color_sels» .exit)) (now («alpha_ends» .exit)) (now («alpha_sels» .exit))) ⌝ }
 {
+    clear_tables(chunk, color_ends, color_sels, alpha_ends, alpha_sels);
     let looked = look(file);
     if looked.refusal != 0 {
         return refused(looked.refusal, 0);
@@ -203,5 +191,72 @@ pub fn open(
         color_selectors,
         alpha_endpoints,
         alpha_selectors,
+        chunk,
+        color_ends,
+        color_sels,
+        alpha_ends,
+        alpha_sels,
     )
+}
+
+// The same with the record handed back whole.
+pub fn open(
+    file: &[u8],
+    color_endpoints: &mut [u32],
+    color_selectors: &mut [u32],
+    alpha_endpoints: &mut [u16],
+    alpha_selectors: &mut [u16],
+) -> Opened
+    ensures { λ r. ⌜ Opens («openingOf» (now (file .entry)) (lentOf (now («color_endpoints» .entry)) (now («color_selectors» .entry)) (now («alpha_endpoints» .entry)) (now («alpha_selectors» .entry)))) (lentOf (now («color_endpoints» .exit)) (now («color_selectors» .exit)) (now («alpha_endpoints» .exit)) (now («alpha_selectors» .exit))) r ⌝ }
+{
+    let mut chunk = [0u8; 8192];
+    let mut color_ends = [0u8; 8192];
+    let mut color_sels = [0u8; 8192];
+    let mut alpha_ends = [0u8; 8192];
+    let mut alpha_sels = [0u8; 8192];
+    let opened = open_into(
+        file,
+        color_endpoints,
+        color_selectors,
+        alpha_endpoints,
+        alpha_selectors,
+        &mut chunk,
+        &mut color_ends,
+        &mut color_sels,
+        &mut alpha_ends,
+        &mut alpha_sels,
+    );
+    let header = opened.header;
+    let counts = opened.counts;
+    let tables = Tables {
+        chunk_encoding: Table {
+            count: counts.chunk,
+            lengths: chunk,
+        },
+        color_endpoint_delta: Table {
+            count: counts.color_ends,
+            lengths: color_ends,
+        },
+        color_selector_delta: Table {
+            count: counts.color_sels,
+            lengths: color_sels,
+        },
+        alpha_endpoint_delta: Table {
+            count: counts.alpha_ends,
+            lengths: alpha_ends,
+        },
+        alpha_selector_delta: Table {
+            count: counts.alpha_sels,
+            lengths: alpha_sels,
+        },
+    };
+    let record = Record {
+        header: header,
+        tables: tables,
+    };
+    Opened {
+        refusal: opened.refusal,
+        at: opened.at,
+        file: record,
+    }
 }

@@ -1,6 +1,7 @@
 // The tables segment: the code tables of the file's levels (document 01, Codes), received into five lent arrays.
 use crn_code_tables::receive;
 use crn_format::Header;
+use crn_formats::Counts;
 use crn_symbol_codec::Cursor;
 ghost use mathlib.Core.Path.{_≡_};
 ghost use Prim.Native.Nat.{_<_};
@@ -9,7 +10,7 @@ ghost use Rattle.crn_format.specs.Limits.{tooLong, maxSymbols};
 ghost use Rattle.crn_format.specs.Reading.{start, run, fromBits};
 ghost use Rattle.crn_format.specs.Opening.{sentTables};
 ghost use Rattle.crn_symbol_codec.specs.Cursors.{Holds};
-ghost use Rattle.crn_opening.specs.SentTables.{Pairs, unsent, told, sentOf};
+ghost use Rattle.crn_opening.specs.SentTables.{noCounts, AllZero, Pairs, unsent, told, sentOf};
 
 // A plane's two delta tables, by their counts, and the cursor after them; or the refusal and the bit that it names.
 struct Pair {
@@ -24,11 +25,7 @@ struct Pair {
 pub struct Sent {
     pub refusal: u32,
     pub at: usize,
-    pub chunk: u32,
-    pub color_endpoints: u32,
-    pub color_selectors: u32,
-    pub alpha_endpoints: u32,
-    pub alpha_selectors: u32,
+    pub counts: Counts,
 }
 
 // The tables of a plane that is absent are empty, and nothing is read for them.
@@ -73,17 +70,26 @@ fn plane_tables(
     }
 }
 
+// Five tables that were not sent.
+pub fn no_counts() -> Counts
+    ensures { λ r. ⌜ r ≡ noCounts ⌝ }
+{
+    Counts {
+        chunk: 0,
+        color_ends: 0,
+        color_sels: 0,
+        alpha_ends: 0,
+        alpha_sels: 0,
+    }
+}
+
 fn refused(refusal: u32, at: usize) -> Sent
     ensures { λ r. ⌜ r ≡ unsent refusal at ⌝ }
 {
     Sent {
         refusal: refusal,
         at: at,
-        chunk: 0,
-        color_endpoints: 0,
-        color_selectors: 0,
-        alpha_endpoints: 0,
-        alpha_selectors: 0,
+        counts: no_counts(),
     }
 }
 
@@ -97,7 +103,7 @@ pub fn read_tables(
     alpha_endpoints: &mut [u8; 8192],
     alpha_selectors: &mut [u8; 8192],
 ) -> Sent
-    requires { ⌜ length (now seg) < tooLong ⌝ ∗ ⌜ (now chunk ≡ replicate maxSymbols 0) × (now «color_endpoints» ≡ replicate maxSymbols 0) × (now «color_selectors» ≡ replicate maxSymbols 0) × (now «alpha_endpoints» ≡ replicate maxSymbols 0) × (now «alpha_selectors» ≡ replicate maxSymbols 0) ⌝ }
+    requires { ⌜ length (now seg) < tooLong ⌝ ∗ ⌜ AllZero (now chunk) (now «color_endpoints») (now «color_selectors») (now «alpha_endpoints») (now «alpha_selectors») ⌝ }
     ensures { λ r. ⌜ told r (now (chunk .exit)) (now («color_endpoints» .exit)) (now («color_selectors» .exit)) (now («alpha_endpoints» .exit)) (now («alpha_selectors» .exit)) ≡ sentOf (run (fromBits (now (seg .entry))) (sentTables h) start) ⌝ }
 {
     let color_palette = h.color_endpoints;
@@ -131,10 +137,12 @@ pub fn read_tables(
     Sent {
         refusal: 0,
         at: 0,
-        chunk: first.count,
-        color_endpoints: color.endpoints,
-        color_selectors: color.selectors,
-        alpha_endpoints: alpha.endpoints,
-        alpha_selectors: alpha.selectors,
+        counts: Counts {
+            chunk: first.count,
+            color_ends: color.endpoints,
+            color_sels: color.selectors,
+            alpha_ends: alpha.endpoints,
+            alpha_sels: alpha.selectors,
+        },
     }
 }

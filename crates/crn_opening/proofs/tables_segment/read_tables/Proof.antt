@@ -21,7 +21,7 @@ returns c =
 plane-tables-requires : tie.Need-plane-tables-requires
 plane-tables-requires c κs =
     let s = c .before .before .before .before .before .before .before .before .before .before .before .before in
-    (c .before .before .before .before .before .before .receive .ensures .goes (c .before .before .before .before .if1 .left) .0, (s .pre .0, (s .pre .1 .1, s .pre .1 .2)))
+    (c .before .before .before .before .before .before .receive .ensures .goes (c .before .before .before .before .if1 .left) .0, (s .pre .0, (s .pre .1 .colorE, s .pre .1 .colorS)))
 
 refused-requires-2 : tie.Need-refused-requires-2
 refused-requires-2 c κs = search needs
@@ -37,7 +37,7 @@ returns-2 c =
 plane-tables-requires-2 : tie.Need-plane-tables-requires-2
 plane-tables-requires-2 c κs =
     let s = c .before .before .before .before .before .before .before .before .before .before .before .before .before .before .before .before .before .before .before in
-    (c .before .before .before .before .before .before .plane-tables .ensures .reads .holds (c .before .before .before .before .if2 .left), (s .pre .0, (s .pre .1 .3, s .pre .1 .4)))
+    (c .before .before .before .before .before .before .plane-tables .ensures .reads .holds (c .before .before .before .before .if2 .left), (s .pre .0, (s .pre .1 .alphaE, s .pre .1 .alphaS)))
 
 refused-requires-3 : tie.Need-refused-requires-3
 refused-requires-3 c κs = search needs
