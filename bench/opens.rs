@@ -8,8 +8,9 @@ fn rust(file: &[u8]) -> crunch::crn_unpacker::CrnUnpacker<'_> {
     crunch::crn_decomp::crnd_unpack_begin(file, file.len() as u32).ok().expect("the Rust refuses a file")
 }
 
-// The palettes' buffers, used again for every file.
+// The record and the palettes' buffers, used again for every file.
 struct Lent {
+    record: Box<raw::Record>,
     ce: Vec<u32>,
     cs: Vec<u32>,
     ae: Vec<u16>,
@@ -17,7 +18,8 @@ struct Lent {
 }
 
 fn open(file: &[u8], l: &mut Lent) -> raw::Opened {
-    raw::open(file, &mut raw::PalettesMut { color_endpoints: &mut l.ce, color_selectors: &mut l.cs, alpha_endpoints: &mut l.ae, alpha_selectors: &mut l.al })
+    let palettes = &mut raw::PalettesMut { color_endpoints: &mut l.ce, color_selectors: &mut l.cs, alpha_endpoints: &mut l.ae, alpha_selectors: &mut l.al };
+    raw::open(file, palettes, &mut l.record)
 }
 
 // Both sides have to give the same palettes and tables.
@@ -27,7 +29,7 @@ fn compare(file: &[u8], lent: &mut Lent) {
     assert!(r.color_endpoints == lent.ce[..r.color_endpoints.len()] && r.color_selectors == lent.cs[..r.color_selectors.len()]);
     assert!(r.alpha_endpoints == lent.ae[..r.alpha_endpoints.len()] && r.alpha_selectors == lent.al[..r.alpha_selectors.len()]);
     let theirs = [&r.chunk_encoding_dm, &r.endpoint_delta_dm[0], &r.selector_delta_dm[0], &r.endpoint_delta_dm[1], &r.selector_delta_dm[1]];
-    let t = &p.file.tables;
+    let t = &lent.record.tables;
     let ours = [&t.chunk_encoding, &t.color_endpoint_delta, &t.color_selector_delta, &t.alpha_endpoint_delta, &t.alpha_selector_delta];
     for (ours, theirs) in ours.into_iter().zip(theirs) {
         assert_eq!(ours.lengths[..ours.count as usize], theirs.code_sizes);
@@ -50,7 +52,7 @@ fn main() {
     for (codes, format) in ["fitted", "any"].iter().flat_map(|c| ["DXT1", "DXT5", "DXT5A", "DXN"].map(|f| (c, f))) {
         for entries in [50usize, 500, 8000] {
             let files: Vec<Vec<u8>> = (0..8).map(|n| std::fs::read(format!("{room}/{codes}-{format}-{entries}-{n}.crn")).unwrap()).collect();
-            let mut lent = Lent { ce: vec![0; entries], cs: vec![0; entries], ae: vec![0; entries], al: vec![0; 3 * entries] };
+            let mut lent = Lent { record: raw::Record::empty(), ce: vec![0; entries], cs: vec![0; entries], ae: vec![0; entries], al: vec![0; 3 * entries] };
             let (mut sums, mut bytes, mut least) = ([0.0; 2], 0, f64::MAX);
             for file in &files {
                 compare(file, &mut lent);

@@ -67,17 +67,34 @@ struct crunch_palette_words {
 };
 struct crunch_palette_words crunch_palette_words(struct crunch_header header);
 
-/* A file opened: refusal 0 with its record; or the refusal and the bit at which the compressed data are at fault, with an empty record. Refused by 1 to 5 it leaves the
- * buffers untouched, refused later it leaves them zero. */
+/* How many symbols each of a record's five tables is for. */
+struct crunch_counts {
+    uint32_t chunk_encoding, color_endpoint_delta, color_selector_delta, alpha_endpoint_delta, alpha_selector_delta;
+};
+
+/* A file opened: refusal 0; or the refusal and the bit at which the compressed data are at fault. Accepted, it leaves the opened file in *record, refused an empty one,
+ * whatever was there before. Refused by 1 to 5 it leaves the buffers untouched, refused later it leaves them zero. */
 struct crunch_opened {
     uint32_t refusal;
     size_t at;
-    struct crunch_record file;
 };
-struct crunch_opened crunch_open(
-    const uint8_t *file, size_t file_len,
+static inline struct crunch_opened crunch_open(
+    struct crunch_record *record, const uint8_t *file, size_t file_len,
     uint32_t *color_endpoints, size_t color_endpoints_len, uint32_t *color_selectors, size_t color_selectors_len,
     uint16_t *alpha_endpoints, size_t alpha_endpoints_len, uint16_t *alpha_selectors, size_t alpha_selectors_len);
+
+/* The same by the record's parts, as the archive has it: the header and the counts in the answer, the lengths of each table in an array of 8,192 bytes. */
+struct crunch_opened_header {
+    uint32_t refusal;
+    size_t at;
+    struct crunch_header header;
+    struct crunch_counts counts;
+};
+struct crunch_opened_header crunch_open_parts(
+    const uint8_t *file, size_t file_len,
+    uint32_t *color_endpoints, size_t color_endpoints_len, uint32_t *color_selectors, size_t color_selectors_len,
+    uint16_t *alpha_endpoints, size_t alpha_endpoints_len, uint16_t *alpha_selectors, size_t alpha_selectors_len,
+    uint8_t *chunk_encoding, uint8_t *color_endpoint_delta, uint8_t *color_selector_delta, uint8_t *alpha_endpoint_delta, uint8_t *alpha_selector_delta);
 
 /* A level's blocks; the least pitch, distance and destination for them, in bytes; and the full symbol allowance, with which no level runs out. Refusal 2 (a header
  * beyond its limits) and 10 (a level that the file does not have) come with zeros. */
@@ -96,11 +113,59 @@ struct crunch_answer {
     size_t at;
     uint64_t symbols, cutouts;
 };
-struct crunch_answer crunch_unpack_level(
-    struct crunch_record record, const uint8_t *file, size_t file_len,
+static inline struct crunch_answer crunch_unpack_level(
+    const struct crunch_record *record, const uint8_t *file, size_t file_len,
     const uint32_t *color_endpoints, size_t color_endpoints_len, const uint32_t *color_selectors, size_t color_selectors_len,
     const uint16_t *alpha_endpoints, size_t alpha_endpoints_len, const uint16_t *alpha_selectors, size_t alpha_selectors_len,
     uint32_t level, size_t pitch, size_t distance, uint64_t *budget, uint8_t *dst, size_t dst_len);
+
+/* The same by the record's parts. */
+struct crunch_answer crunch_unpack_level_parts(
+    struct crunch_header header, struct crunch_counts counts, const uint8_t *chunk_encoding,
+    const uint8_t *color_endpoint_delta, const uint8_t *color_selector_delta, const uint8_t *alpha_endpoint_delta, const uint8_t *alpha_selector_delta,
+    const uint8_t *file, size_t file_len,
+    const uint32_t *color_endpoints, size_t color_endpoints_len, const uint32_t *color_selectors, size_t color_selectors_len,
+    const uint16_t *alpha_endpoints, size_t alpha_endpoints_len, const uint16_t *alpha_selectors, size_t alpha_selectors_len,
+    uint32_t level, size_t pitch, size_t distance, uint64_t *budget, uint8_t *dst, size_t dst_len);
+
+/* ---- a record by its parts: nothing of its 41,000 bytes is copied but the header and the counts */
+
+static inline struct crunch_opened crunch_open(
+    struct crunch_record *record, const uint8_t *file, size_t file_len,
+    uint32_t *color_endpoints, size_t color_endpoints_len, uint32_t *color_selectors, size_t color_selectors_len,
+    uint16_t *alpha_endpoints, size_t alpha_endpoints_len, uint16_t *alpha_selectors, size_t alpha_selectors_len)
+{
+    struct crunch_opened_header o = crunch_open_parts(
+        file, file_len, color_endpoints, color_endpoints_len, color_selectors, color_selectors_len, alpha_endpoints, alpha_endpoints_len, alpha_selectors, alpha_selectors_len,
+        record->tables.chunk_encoding.lengths, record->tables.color_endpoint_delta.lengths, record->tables.color_selector_delta.lengths,
+        record->tables.alpha_endpoint_delta.lengths, record->tables.alpha_selector_delta.lengths);
+    struct crunch_opened answer = {o.refusal, o.at};
+    record->header = o.header;
+    record->tables.chunk_encoding.count = o.counts.chunk_encoding;
+    record->tables.color_endpoint_delta.count = o.counts.color_endpoint_delta;
+    record->tables.color_selector_delta.count = o.counts.color_selector_delta;
+    record->tables.alpha_endpoint_delta.count = o.counts.alpha_endpoint_delta;
+    record->tables.alpha_selector_delta.count = o.counts.alpha_selector_delta;
+    return answer;
+}
+
+static inline struct crunch_answer crunch_unpack_level(
+    const struct crunch_record *record, const uint8_t *file, size_t file_len,
+    const uint32_t *color_endpoints, size_t color_endpoints_len, const uint32_t *color_selectors, size_t color_selectors_len,
+    const uint16_t *alpha_endpoints, size_t alpha_endpoints_len, const uint16_t *alpha_selectors, size_t alpha_selectors_len,
+    uint32_t level, size_t pitch, size_t distance, uint64_t *budget, uint8_t *dst, size_t dst_len)
+{
+    struct crunch_counts counts = {
+        record->tables.chunk_encoding.count, record->tables.color_endpoint_delta.count, record->tables.color_selector_delta.count,
+        record->tables.alpha_endpoint_delta.count, record->tables.alpha_selector_delta.count,
+    };
+    return crunch_unpack_level_parts(
+        record->header, counts, record->tables.chunk_encoding.lengths,
+        record->tables.color_endpoint_delta.lengths, record->tables.color_selector_delta.lengths,
+        record->tables.alpha_endpoint_delta.lengths, record->tables.alpha_selector_delta.lengths,
+        file, file_len, color_endpoints, color_endpoints_len, color_selectors, color_selectors_len, alpha_endpoints, alpha_endpoints_len, alpha_selectors, alpha_selectors_len,
+        level, pitch, distance, budget, dst, dst_len);
+}
 
 #ifdef __cplusplus
 }

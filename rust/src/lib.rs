@@ -101,6 +101,7 @@ impl<'a> Crn<'a> {
         let mut color_selectors = vec![0; words.color_selectors];
         let mut alpha_endpoints = vec![0; words.alpha_endpoints];
         let mut alpha_selectors = vec![0; words.alpha_selectors];
+        let mut record = raw::Record::empty();
         let opened = raw::open(
             file,
             &mut raw::PalettesMut {
@@ -109,12 +110,13 @@ impl<'a> Crn<'a> {
                 alpha_endpoints: &mut alpha_endpoints,
                 alpha_selectors: &mut alpha_selectors,
             },
+            &mut record,
         );
         if let Some(refusal) = Refusal::of(opened.refusal, opened.at) {
             return Err(refusal);
         }
-        let format = Format::of(opened.file.header.format).expect("a file that opens has a known format");
-        Ok(Crn { file, format, record: Box::new(opened.file), color_endpoints, color_selectors, alpha_endpoints, alpha_selectors })
+        let format = Format::of(record.header.format).expect("a file that opens has a known format");
+        Ok(Crn { file, format, record, color_endpoints, color_selectors, alpha_endpoints, alpha_selectors })
     }
 
     /// Columns of pixels of level 0.

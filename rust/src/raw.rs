@@ -73,13 +73,32 @@ pub struct Looked {
     pub header: Header,
 }
 
-/// What [`open`] answers: refusal 0 with the record; or the refusal and the bit that it names, counted from its segment's first, with an empty record.
-#[repr(C)]
+/// What [`open`] answers: refusal 0; or the refusal and the bit that it names, counted from its segment's first.
 #[derive(Clone, Copy, Debug, PartialEq, Eq)]
 pub struct Opened {
     pub refusal: u32,
     pub at: usize,
-    pub file: Record,
+}
+
+/// How many symbols each of a record's five tables is for.
+#[repr(C)]
+#[derive(Clone, Copy, Debug, PartialEq, Eq)]
+pub struct TableCounts {
+    pub chunk_encoding: u32,
+    pub color_endpoint_delta: u32,
+    pub color_selector_delta: u32,
+    pub alpha_endpoint_delta: u32,
+    pub alpha_selector_delta: u32,
+}
+
+/// What the archive's opening answers: as [`Opened`], with the record but for the tables' lengths.
+#[repr(C)]
+#[derive(Clone, Copy, Debug, PartialEq, Eq)]
+pub struct OpenedHeader {
+    pub refusal: u32,
+    pub at: usize,
+    pub header: Header,
+    pub counts: TableCounts,
 }
 
 /// What [`unpack_level`] answers: refusal 0 with the symbols drawn and the cut-outs; or the refusal, the bit that it names and the symbols drawn.
@@ -140,17 +159,31 @@ extern "C" {
     fn crunch_look(file: *const u8, file_len: usize) -> Looked;
     fn crunch_palette_words(header: Header) -> PaletteWords;
     fn crunch_level_sizes(header: Header, level: u32) -> LevelSizes;
-    fn crunch_open(
+    fn crunch_open_parts(
         file: *const u8, file_len: usize,
         color_endpoints: *mut u32, color_endpoints_len: usize, color_selectors: *mut u32, color_selectors_len: usize,
         alpha_endpoints: *mut u16, alpha_endpoints_len: usize, alpha_selectors: *mut u16, alpha_selectors_len: usize,
-    ) -> Opened;
-    fn crunch_unpack_level(
-        record: Record, file: *const u8, file_len: usize,
+        chunk_encoding: *mut Lengths, color_endpoint_delta: *mut Lengths, color_selector_delta: *mut Lengths,
+        alpha_endpoint_delta: *mut Lengths, alpha_selector_delta: *mut Lengths,
+    ) -> OpenedHeader;
+    fn crunch_unpack_level_parts(
+        header: Header, counts: TableCounts, chunk_encoding: *const Lengths, color_endpoint_delta: *const Lengths, color_selector_delta: *const Lengths,
+        alpha_endpoint_delta: *const Lengths, alpha_selector_delta: *const Lengths, file: *const u8, file_len: usize,
         color_endpoints: *const u32, color_endpoints_len: usize, color_selectors: *const u32, color_selectors_len: usize,
         alpha_endpoints: *const u16, alpha_endpoints_len: usize, alpha_selectors: *const u16, alpha_selectors_len: usize,
         level: u32, pitch: usize, distance: usize, budget: *mut u64, dst: *mut u8, dst_len: usize,
     ) -> Answer;
+}
+
+/// The lengths of a table.
+type Lengths = [u8; 8192];
+
+impl Record {
+    /// An empty record, for [`open`] to fill. It is made where it stays: 41,000 bytes are too many to be copied at each file.
+    pub fn empty() -> Box<Record> {
+        // SAFETY: numbers and arrays of them, which may be zero.
+        unsafe { Box::new_zeroed().assume_init() }
+    }
 }
 
 /// The header of a file: opening's refusals 1, 2 and 3, without the streams.
@@ -171,13 +204,38 @@ pub fn level_sizes(header: &Header, level: u32) -> LevelSizes {
     unsafe { crunch_level_sizes(*header, level) }
 }
 
-/// Opens a file. Refused by 1 to 5 it leaves the buffers untouched, refused later it leaves them zero.
-pub fn open(file: &[u8], palettes: &mut PalettesMut<'_>) -> Opened {
+/// Opens a file, and leaves what it is in the record; after a refusal an empty one. Refused by 1 to 5 it leaves the buffers untouched, refused later it leaves them
+/// zero.
+pub fn open(file: &[u8], palettes: &mut PalettesMut<'_>, record: &mut Record) -> Opened {
     let PalettesMut { color_endpoints: ce, color_selectors: cs, alpha_endpoints: ae, alpha_selectors: al } = palettes;
-    // SAFETY: as in `look`; the buffers that are written are lent as `&mut`, so none overlaps another.
-    unsafe {
-        crunch_open(file.as_ptr(), file.len(), ce.as_mut_ptr(), ce.len(), cs.as_mut_ptr(), cs.len(), ae.as_mut_ptr(), ae.len(), al.as_mut_ptr(), al.len())
-    }
+    let Tables { chunk_encoding, color_endpoint_delta, color_selector_delta, alpha_endpoint_delta, alpha_selector_delta } = &mut record.tables;
+    // SAFETY: as in `look`; what is written is lent as `&mut`, so none overlaps another.
+    let opened = unsafe {
+        crunch_open_parts(
+            file.as_ptr(),
+            file.len(),
+            ce.as_mut_ptr(),
+            ce.len(),
+            cs.as_mut_ptr(),
+            cs.len(),
+            ae.as_mut_ptr(),
+            ae.len(),
+            al.as_mut_ptr(),
+            al.len(),
+            &mut chunk_encoding.lengths,
+            &mut color_endpoint_delta.lengths,
+            &mut color_selector_delta.lengths,
+            &mut alpha_endpoint_delta.lengths,
+            &mut alpha_selector_delta.lengths,
+        )
+    };
+    record.header = opened.header;
+    chunk_encoding.count = opened.counts.chunk_encoding;
+    color_endpoint_delta.count = opened.counts.color_endpoint_delta;
+    color_selector_delta.count = opened.counts.color_selector_delta;
+    alpha_endpoint_delta.count = opened.counts.alpha_endpoint_delta;
+    alpha_selector_delta.count = opened.counts.alpha_selector_delta;
+    Opened { refusal: opened.refusal, at: opened.at }
 }
 
 /// Unpacks a level of every face: face f starts at f times the distance, rows are a pitch apart. The budget is counted down by each symbol drawn.
@@ -193,10 +251,24 @@ pub fn unpack_level(
     dst: &mut [u8],
 ) -> Answer {
     let Palettes { color_endpoints: ce, color_selectors: cs, alpha_endpoints: ae, alpha_selectors: al } = *palettes;
+    let t = &record.tables;
+    let counts = TableCounts {
+        chunk_encoding: t.chunk_encoding.count,
+        color_endpoint_delta: t.color_endpoint_delta.count,
+        color_selector_delta: t.color_selector_delta.count,
+        alpha_endpoint_delta: t.alpha_endpoint_delta.count,
+        alpha_selector_delta: t.alpha_selector_delta.count,
+    };
     // SAFETY: as in `open`.
     unsafe {
-        crunch_unpack_level(
-            *record,
+        crunch_unpack_level_parts(
+            record.header,
+            counts,
+            &t.chunk_encoding.lengths,
+            &t.color_endpoint_delta.lengths,
+            &t.color_selector_delta.lengths,
+            &t.alpha_endpoint_delta.lengths,
+            &t.alpha_selector_delta.lengths,
             file.as_ptr(),
             file.len(),
             ce.as_ptr(),

@@ -94,7 +94,8 @@ fn cases_are_answered_as_the_gates_program_answers_them() {
     let input = std::fs::read(root("crates/crn_cases/stdin")).unwrap();
     let mut cases = Cases(&input);
     assert_eq!(cases.bytes(4), b"CASE");
-    let mut out = String::new();
+    // what a case has left in the record is nothing to the next
+    let (mut out, mut record) = (String::new(), Record::empty());
     for _ in 0..cases.number(4) {
         let size = cases.number(4) as usize;
         let file = cases.bytes(size);
@@ -102,11 +103,10 @@ fn cases_are_answered_as_the_gates_program_answers_them() {
         let fill = cases.number(1) as u8;
         let (mut ce, mut cs) = (vec![fill as u32; words[0]], vec![fill as u32; words[1]]);
         let (mut ae, mut al) = (vec![fill as u16; words[2]], vec![fill as u16; words[3]]);
-        let opened =
-            raw::open(file, &mut PalettesMut { color_endpoints: &mut ce, color_selectors: &mut cs, alpha_endpoints: &mut ae, alpha_selectors: &mut al });
+        let palettes = &mut PalettesMut { color_endpoints: &mut ce, color_selectors: &mut cs, alpha_endpoints: &mut ae, alpha_selectors: &mut al };
+        let opened = raw::open(file, palettes, &mut record);
         let lent = ce.iter().chain(&cs).flat_map(|w| w.to_le_bytes()).chain(ae.iter().chain(&al).flat_map(|w| w.to_le_bytes()));
-        out += &format!("open {} {:016x} {:016x}\n", opened.refusal, hash(lent), hash(record_bytes(&opened.file)));
-        let mut record = opened.file;
+        out += &format!("open {} {:016x} {:016x}\n", opened.refusal, hash(lent), hash(record_bytes(&record)));
         for _ in 0..cases.number(1) {
             let (field, at, value) = (cases.number(1), cases.number(4), cases.number(4) as u32);
             edit(&mut record, field, at, value);

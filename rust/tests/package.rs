@@ -67,12 +67,11 @@ fn the_largest_level_fits_into_the_stack_of_a_thread() {
     // half of the two megabytes that Rust gives a thread
     let unpacked = std::thread::Builder::new().stack_size(1 << 20).spawn(|| {
         let sample = sample("dxt1.crn");
-        let mut record = Box::new(
-            raw::open(
-                &sample,
-                &mut raw::PalettesMut { color_endpoints: &mut [0; 40], color_selectors: &mut [0; 40], alpha_endpoints: &mut [], alpha_selectors: &mut [] },
-            )
-            .file,
+        let mut record = raw::Record::empty();
+        raw::open(
+            &sample,
+            &mut raw::PalettesMut { color_endpoints: &mut [0; 40], color_selectors: &mut [0; 40], alpha_endpoints: &mut [], alpha_selectors: &mut [] },
+            &mut record,
         );
         let header = &mut record.header;
         (header.width, header.height, header.levels, header.faces, header.level_offsets) = (4096, 4096, 1, 6, [0; 13]);

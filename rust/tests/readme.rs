@@ -73,7 +73,11 @@ fn the_c_header_is_the_archives() {
     );
     line("record", &[size_of::<raw::Record>(), offset_of!(raw::Record, tables), size_of::<raw::Table>(), offset_of!(raw::Tables, alpha_selector_delta)]);
     line("looked", &[size_of::<raw::Looked>(), offset_of!(raw::Looked, header)]);
-    line("opened", &[size_of::<raw::Opened>(), offset_of!(raw::Opened, at), offset_of!(raw::Opened, file)]);
+    line(
+        "opened",
+        &[size_of::<raw::OpenedHeader>(), offset_of!(raw::OpenedHeader, at), offset_of!(raw::OpenedHeader, header), offset_of!(raw::OpenedHeader, counts)],
+    );
+    line("counts", &[size_of::<raw::TableCounts>(), offset_of!(raw::TableCounts, alpha_selector_delta)]);
     line("answer", &[size_of::<raw::Answer>(), offset_of!(raw::Answer, at), offset_of!(raw::Answer, symbols), offset_of!(raw::Answer, cutouts)]);
     line("words", &[size_of::<raw::PaletteWords>(), offset_of!(raw::PaletteWords, alpha_selectors)]);
     line("sizes", &[size_of::<raw::LevelSizes>(), offset_of!(raw::LevelSizes, block_bytes), offset_of!(raw::LevelSizes, symbols)]);
@@ -84,9 +88,11 @@ fn the_c_header_is_the_archives() {
         line(name, &[h.width as usize, h.height as usize, h.levels as usize, h.faces as usize, h.format as usize, h.level_offsets[1] as usize]);
         line("words", &[p.color_endpoints.len(), p.color_selectors.len(), p.alpha_endpoints.len(), p.alpha_selectors.len()]);
         line("sizes", &[sizes.columns, sizes.rows, sizes.block_bytes, sizes.pitch, sizes.distance, sizes.bytes, sizes.symbols as usize]);
+        line("opened", &[0, 0]);
         line("level", &[0, 0, level.counts.symbols as usize, level.counts.cutouts as usize, sizes.symbols as usize - level.counts.symbols as usize]);
         line("blocks", &[hash(level.blocks) as usize]);
     }
+    line("empty", &[0, 0, 0]);
     line("refused", &[1, 1, 10, 2]);
     assert_eq!(c(&root("rust/tests/header.c"), &room), (0, asked, String::new()));
 }

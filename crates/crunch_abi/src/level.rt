@@ -2,8 +2,10 @@
 ghost use mathlib.Core.Path.{_≡_};
 ghost use Rattle.crn_format.specs.Unpacking.{unpacking as «unpackingOf»};
 ghost use Rattle.crn_formats.specs.Lent.{lentOf};
+ghost use Rattle.crn_formats.specs.Records.{recordBy};
 ghost use Rattle.crunch_abi.specs.Answers.{answerOf, Answers};
-use crn_format::Record;
+use crn_format::Header;
+use crn_formats::Counts;
 use crn_level::Unpacked;
 
 // Refusal 0 with the symbols drawn and the cut-outs; or the refusal, the bit that it names and the symbols drawn.
@@ -39,10 +41,16 @@ fn flat(u: Unpacked) -> Answer
     }
 }
 
-// A level unpacked into a lent destination.
+// A level unpacked into a lent destination, of a record by its parts.
 #[no_mangle]
-pub extern "C" fn crunch_unpack_level(
-    record: Record,
+pub extern "C" fn crunch_unpack_level_parts<'a>(
+    header: Header,
+    counts: Counts,
+    chunk: &'a [u8; 8192],
+    color_ends: &'a [u8; 8192],
+    color_sels: &'a [u8; 8192],
+    alpha_ends: &'a [u8; 8192],
+    alpha_sels: &'a [u8; 8192],
     file: &[u8],
     color_endpoints: &[u32],
     color_selectors: &[u32],
@@ -54,10 +62,16 @@ pub extern "C" fn crunch_unpack_level(
     budget: &mut u64,
     dst: &mut [u8],
 ) -> Answer
-    ensures { λ r. ⌜ Answers («unpackingOf» «record» (now (file .entry)) (lentOf (now («color_endpoints» .entry)) (now («color_selectors» .entry)) (now («alpha_endpoints» .entry)) (now («alpha_selectors» .entry))) level pitch distance (now (budget .entry)) (now (dst .entry))) (now (budget .entry)) (now (budget .exit)) (now (dst .exit)) r ⌝ }
+    ensures { λ r. ⌜ Answers («unpackingOf» (recordBy header counts (now (chunk .entry)) (now («color_ends» .entry)) (now («color_sels» .entry)) (now («alpha_ends» .entry)) (now («alpha_sels» .entry))) (now (file .entry)) (lentOf (now («color_endpoints» .entry)) (now («color_selectors» .entry)) (now («alpha_endpoints» .entry)) (now («alpha_selectors» .entry))) level pitch distance (now (budget .entry)) (now (dst .entry))) (now (budget .entry)) (now (budget .exit)) (now (dst .exit)) r ⌝ }
 {
-    flat(crunch::unpack_level(
-        record,
+    flat(crunch::unpack_level_by(
+        header,
+        counts,
+        chunk,
+        color_ends,
+        color_sels,
+        alpha_ends,
+        alpha_sels,
         file,
         color_endpoints,
         color_selectors,

@@ -1,17 +1,18 @@
 // The entry for C and Rust: what `rt staticlib` hands out. No function asks anything of its caller; an answer is a number or a flat struct by value.
+// A record is taken and given by its parts, so that its 41,000 bytes are never copied.
 ghost use mathlib.Core.Path.{_≡_};
 ghost use Rattle.crn_format.specs.Opening.{opening as «openingOf»};
 ghost use Rattle.crn_formats.specs.Lent.{lentOf};
 ghost use Rattle.crn_decomp.specs.Look.{lookOf};
-ghost use Rattle.crn_opening.specs.Opens.{Opens};
+ghost use Rattle.crn_opening.specs.Opens.{openedBy, Opens};
 use crn_decomp::Looked;
-use crunch::Opened;
+use crunch::OpenedHeader;
 
 mod level; // a level unpacked
 mod sizes; // the sizes of a host's buffers
 
 pub use level::Answer;
-pub use level::crunch_unpack_level;
+pub use level::crunch_unpack_level_parts;
 pub use sizes::LevelSizes;
 pub use sizes::PaletteWords;
 pub use sizes::crunch_level_sizes;
@@ -25,22 +26,33 @@ pub extern "C" fn crunch_look(file: &[u8]) -> Looked
     crn_decomp::look(file)
 }
 
-// A file opened with four lent buffers.
+// A file opened with four lent buffers, and its record by its parts: the header and the tables' counts in the answer, the tables' lengths in
+// five lent arrays.
 #[no_mangle]
-pub extern "C" fn crunch_open(
+pub extern "C" fn crunch_open_parts(
     file: &[u8],
     color_endpoints: &mut [u32],
     color_selectors: &mut [u32],
     alpha_endpoints: &mut [u16],
     alpha_selectors: &mut [u16],
-) -> Opened
-    ensures { λ r. ⌜ Opens («openingOf» (now (file .entry)) (lentOf (now («color_endpoints» .entry)) (now («color_selectors» .entry)) (now («alpha_endpoints» .entry)) (now («alpha_selectors» .entry)))) (lentOf (now («color_endpoints» .exit)) (now («color_selectors» .exit)) (now («alpha_endpoints» .exit)) (now («alpha_selectors» .exit))) r ⌝ }
+    chunk: &mut [u8; 8192],
+    color_ends: &mut [u8; 8192],
+    color_sels: &mut [u8; 8192],
+    alpha_ends: &mut [u8; 8192],
+    alpha_sels: &mut [u8; 8192],
+) -> OpenedHeader
+    ensures { λ r. ⌜ Opens («openingOf» (now (file .entry)) (lentOf (now («color_endpoints» .entry)) (now («color_selectors» .entry)) (now («alpha_endpoints» .entry)) (now («alpha_selectors» .entry)))) (lentOf (now («color_endpoints» .exit)) (now («color_selectors» .exit)) (now («alpha_endpoints» .exit)) (now («alpha_selectors» .exit))) (openedBy r (now (chunk .exit)) (now («color_ends» .exit)) (now («color_sels» .exit)) (now («alpha_ends» .exit)) (now («alpha_sels» .exit))) ⌝ }
 {
-    crunch::open(
+    crunch::open_into(
         file,
         color_endpoints,
         color_selectors,
         alpha_endpoints,
         alpha_selectors,
+        chunk,
+        color_ends,
+        color_sels,
+        alpha_ends,
+        alpha_sels,
     )
 }

@@ -129,17 +129,30 @@ fn damaged(file: &[u8], dice: &mut Dice) -> Vec<u8> {
     out
 }
 
-/// A file opened. Refused by 1 to 5 it leaves the buffers untouched, by 6 to 9 zero; accepted, it leaves what lies beyond each palette untouched.
-fn opened(file: &[u8], near: bool, dice: &mut Dice, tally: &mut Tally) -> (raw::Opened, Lent) {
+/// A record that something else was in.
+fn used() -> Box<Record> {
+    let mut record = Record::empty();
+    let t = &mut record.tables;
+    for table in [&mut t.chunk_encoding, &mut t.color_endpoint_delta, &mut t.color_selector_delta, &mut t.alpha_endpoint_delta, &mut t.alpha_selector_delta] {
+        table.count = 0xA5;
+        table.lengths.fill(0xA5);
+    }
+    record
+}
+
+/// A file opened. Refused by 1 to 5 it leaves the buffers untouched, by 6 to 9 zero, and by all an empty record; accepted, it leaves what lies beyond each palette
+/// untouched.
+fn opened(file: &[u8], near: bool, dice: &mut Dice, tally: &mut Tally) -> (u32, Box<Record>, Lent) {
     let looked = raw::look(file);
     let words = raw::palette_words(&looked.header);
     let mut len = |n: usize| if near { (dice.wild(n as u64) as usize).min(30_000) } else { n };
     let lens = [len(words.color_endpoints), len(words.color_selectors), len(words.alpha_endpoints), len(words.alpha_selectors)];
     let mut lent = Lent { ce: Guarded::new(lens[0], dice), cs: Guarded::new(lens[1], dice), ae: Guarded::new(lens[2], dice), al: Guarded::new(lens[3], dice) };
-    let before = lent.words();
+    let (before, mut record) = (lent.words(), used());
     let o = raw::open(
         file,
         &mut PalettesMut { color_endpoints: lent.ce.lent(), color_selectors: lent.cs.lent(), alpha_endpoints: lent.ae.lent(), alpha_selectors: lent.al.lent() },
+        &mut record,
     );
     lent.check();
     let after = lent.words();
@@ -149,14 +162,15 @@ fn opened(file: &[u8], near: bool, dice: &mut Dice, tally: &mut Tally) -> (raw::
     match o.refusal {
         0 => {
             let ends = [words.color_endpoints, words.color_selectors, words.alpha_endpoints, words.alpha_selectors];
-            assert_eq!(o.file.header, looked.header);
+            assert_eq!(record.header, looked.header);
             assert!((0..4).all(|p| after[p][ends[p]..] == before[p][ends[p]..]), "a word beyond a palette was written");
         }
         1..=5 => assert_eq!(before, after, "refused by {}, and a palette was written", o.refusal),
         _ => assert!(after.iter().flatten().all(|w| *w == 0), "refused by {}, and a palette is not zero", o.refusal),
     }
+    assert!(o.refusal == 0 || record == Record::empty(), "refused by {}, and the record is not empty", o.refusal);
     assert!(near || o.refusal != 5, "palettes of the words that were told are too short");
-    (o, lent)
+    (o.refusal, record, lent)
 }
 
 /// A level unpacked. Its symbols are taken off the budget. Refused before its first draw it leaves the destination untouched, refused later it leaves its blocks zero;
@@ -248,9 +262,9 @@ fn round(samples: &[Vec<u8>], seed: u64, tally: &mut Tally) {
     let whole = &samples[dice.below(samples.len())];
     let file = damaged(whole, dice);
     let near = dice.one_in(4);
-    let (mut o, mut lent) = opened(&file, near, dice, tally);
+    let (refusal, mut record, mut lent) = opened(&file, near, dice, tally);
     let crn = Crn::open(&file);
-    assert!(near || crn.as_ref().map_or_else(|refusal| refusal.number(), |_| 0) == o.refusal, "Crn::open and open part ways");
+    assert!(near || crn.as_ref().map_or_else(|refusal| refusal.number(), |_| 0) == refusal, "Crn::open and open part ways");
     if let Ok(crn) = crn {
         let level = dice.below(20) as u32;
         let sized = crn.level_sizes(level).map(|sizes| sizes.bytes);
@@ -258,15 +272,15 @@ fn round(samples: &[Vec<u8>], seed: u64, tally: &mut Tally) {
         assert!(sized.is_ok() || made.as_ref().err() == sized.as_ref().err(), "a level without sizes was unpacked");
         assert!(made.is_err() || made.map(|level| level.blocks.len()) == sized, "a level is longer or shorter than its sizes");
     }
-    if o.refusal != 0 {
+    if refusal != 0 {
         // the whole file's record, beside the damaged file
-        (o, lent) = opened(whole, false, dice, tally);
+        (_, record, lent) = opened(whole, false, dice, tally);
     }
     if dice.one_in(6) {
-        edited(&mut o.file, dice);
+        edited(&mut record, dice);
     }
     for _ in 0..4 {
-        unpacked(&o.file, &file, &lent, dice, tally);
+        unpacked(&record, &file, &lent, dice, tally);
     }
 }
 
