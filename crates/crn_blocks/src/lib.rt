@@ -6,46 +6,38 @@ ghost use lib.ListN.{length, getD, replicate};
 ghost use lib.Seq.{sets};
 ghost use Rattle.crn_format.specs.Grid.{color, alpha, little, painted, facePainted, rowPainted, blank, cutouts as «cutoutsOf», faceCutouts, rowCutouts};
 ghost use Rattle.crn_blocks.specs.Sheet.{Room, standing};
-ghost use Rattle.crn_blocks.specs.Halves.{Half};
+ghost use Rattle.crn_blocks.specs.Halves.{Half, Has};
 use crn_format::Grid;
 
-// An entry of a palette of words. One past the end counts as 0.
+// An entry of a palette of words.
 fn entry32(words: &[u32], at: u64) -> u64
+    requires { ⌜ at < length (now words) ⌝ }
     ensures { λ r. ⌜ (r ≡ getD (now (words .entry)) at 0) × (r < 4294967296) ⌝ }
 {
-    if at < words.len() as u64 {
-        words[at as usize] as u64
-    } else {
-        0
-    }
+    words[at as usize] as u64
 }
 
 fn entry16(words: &[u16], at: u64) -> u64
+    requires { ⌜ at < length (now words) ⌝ }
     ensures { λ r. ⌜ (r ≡ getD (now (words .entry)) at 0) × (r < 65536) ⌝ }
 {
-    if at < words.len() as u64 {
-        words[at as usize] as u64
-    } else {
-        0
-    }
+    words[at as usize] as u64
 }
 
-// The eight bytes of a colour plane: endpoint word, selector word. An entry past the end counts as 0.
+// The eight bytes of a colour plane: endpoint word, selector word.
 pub fn color_half(ends: &[u32], sels: &[u32], e: u64, s: u64) -> u64
+    requires { ⌜ Has (color (now ends) (now sels)) e s ⌝ }
     ensures { λ r. ⌜ Half (color (now (ends .entry)) (now (sels .entry))) e s r ⌝ }
 {
     entry32(ends, e) + 4294967296 * entry32(sels, s)
 }
 
-// The eight bytes of an alpha plane: endpoint word, three selector words. No slice is so long that it has an entry where `3 * s + 2` wraps.
+// The eight bytes of an alpha plane: endpoint word, three selector words.
 pub fn alpha_half(ends: &[u16], sels: &[u16], e: u64, s: u64) -> u64
+    requires { ⌜ Has (alpha (now ends) (now sels)) e s ⌝ }
     ensures { λ r. ⌜ Half (alpha (now (ends .entry)) (now (sels .entry))) e s r ⌝ }
 {
-    let end = entry16(ends, e);
-    if 6148914691236517205 <= s {
-        return end;
-    }
-    end
+    entry16(ends, e)
         + 65536
             * (entry16(sels, 3 * s)
                 + 65536 * (entry16(sels, 3 * s + 1) + 65536 * entry16(sels, 3 * s + 2)))

@@ -19,8 +19,10 @@ use Rattle.crn_level.specs.Tables.{Able, countsOf, CodedTo, codesBy, tab
 use Rattle.crn_level.specs.Planning.{planesBy, planesFor}
 use Rattle.crn_level.specs.Unpacks.{Unpacks}
 use Rattle.crn_level.specs.Levels.{Checked, endedBy}
+use Rattle.crn_formats.specs.Lent.{lentOf}
 use Rattle.crn_formats.proofs.Limited.{Limited, limited}
 use Rattle.crn_level.proofs.Formats.{codesOf, chunk-code, planes-by, shades-by, bytes-by, served-by}
+use Rattle.crn_level.proofs.Reaching.{lent, reach-by}
 
 abbrev kindIn : Record → Kind
 kindIn r = kindOf (r .header .format)
@@ -39,7 +41,10 @@ pub ready-by : (r : Record) {s : Sizes} {lookup sorted : List ℕ} {color alpha 
     → Ready r s lookup sorted
 ready-by r e₁ e₂ e₃ coded = rw (e₁, e₂, e₃) at coded
 
-module _ (r : Record) (s : Sizes) (lookup sorted seg ends sels alphaEnds alphaSels : List ℕ) (g : Grid) {n : ℕ} (checked : Checked r seg g n) where
+module _ (r : Record) (s : Sizes) (lookup sorted seg ends sels alphaEnds alphaSels : List ℕ) (g : Grid) {n : ℕ} (checked : Checked r seg (lentOf ends sels alphaEnds alphaSels) g n) where
+  abbrev palettes : Palettes
+  palettes = lentOf ends sels alphaEnds alphaSels
+
   limits : Limited (r .header)
   limits = limited (r .header) (checked .within)
 
@@ -51,10 +56,8 @@ module _ (r : Record) (s : Sizes) (lookup sorted seg ends sels alphaEnds alphaSe
         served = served-by r s lookup sorted limits able (kindIn r) (limits .known) ready;
         bytes = checked .bytes ∙ bytes-by r s (kindIn r) (limits .known);
         room = checked .room;
+        reach = reach-by (r .header) s palettes (kindIn r) (limits .known) (lent (r .header) palettes (checked .palettes));
       })
-
-  abbrev palettes : Palettes
-  palettes = record { colorEnds = ends; colorSels = sels; alphaEnds = alphaEnds; alphaSels = alphaSels }
 
   same-level : (budget : ℕ) (d : List ℕ)
       → endedBy (kindIn r) (codesIn r) (given lookup sorted seg ends sels alphaEnds alphaSels (planesFor (r .header) s) g) budget d ≡ drawnLevel r seg palettes g budget d

@@ -131,12 +131,13 @@ module _ (r : Record) (file : List ℕ) (p : Palettes) (level pitch distance n :
     pub stands-so : levelStands file (r .header) level ≡ true
     stands-so = all .stands
 
-    pub all-checked : {seg : List ℕ} → length seg < tooLong → {q : Grid} → q ≡ gridOf (r .header) level pitch distance → Checked r seg q n
+    pub all-checked : {seg : List ℕ} → length seg < tooLong → {q : Grid} → q ≡ gridOf (r .header) level pitch distance → Checked r seg p q n
     all-checked short e =
         rw e (record {
           within = all .limits;
           tables = all .tables;
           short = short;
+          palettes = all .palettes;
           bytes = unfold gridOf in refl;
           room = room-of (r .header) level pitch distance n (limited (r .header) (all .limits)) (all .grid) (all .room);
         })

@@ -9,7 +9,8 @@ use Rattle.crn_format.specs.Reading.{start, run}
 use Rattle.crn_format.specs.Header.{Kind, kindOf, blockBytes, withinLimits}
 use Rattle.crn_format.specs.Level.{level}
 use Rattle.crn_format.specs.Grid.{chunkCount, insides, painted, blank}
-use Rattle.crn_format.specs.Unpacking.{Unpacking, tablesHold, cutoutCount, ended}
+use Rattle.crn_format.specs.Opening.{Palettes}
+use Rattle.crn_format.specs.Unpacking.{Unpacking, tablesHold, palettesReach, cutoutCount, ended}
 use Rattle.crn_format.specs.declared.Record.{Record}
 use Rattle.crn_format.specs.declared.Grid.{Grid}
 use Rattle.crn_chunks.specs.Meaning.{source, planes}
@@ -21,11 +22,12 @@ use Rattle.crn_unpacker.specs.declared.Went.the-variants.{On, Stopped}
 use Rattle.crn_level.specs.declared.Unpacked.{Unpacked}
 use Rattle.crn_level.specs.declared.Unpacked.the-variants.{Blocks, Refused}
 
--- what the checks before the first draw leave to count on: g is the level's grid, and n bytes are lent
-pub record Checked (r : Record) (seg : List ℕ) (g : Grid) (n : ℕ) : Type 0 where
+-- what the checks before the first draw leave to count on: p are the lent palettes, g is the level's grid, and n bytes are lent
+pub record Checked (r : Record) (seg : List ℕ) (p : Palettes) (g : Grid) (n : ℕ) : Type 0 where
   pub within : withinLimits (r .header) ≡ true
   pub tables : tablesHold (r .tables) ≡ true
   pub short : length seg < tooLong
+  pub palettes : palettesReach (r .header) p ≡ true
   pub bytes : g .bytes ≡ blockBytes (kindOf (r .header .format))
   pub room : Room g n
 

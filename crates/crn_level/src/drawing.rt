@@ -146,7 +146,7 @@ fn draw_with<'a>(
     budget: &mut u64,
     dst: &mut [u8],
 ) -> Unpacked
-    requires { ⌜ Checked (recordBy h counts (now chunk) (now «color_ends») (now «color_sels») (now «alpha_ends») (now «alpha_sels»)) (now seg) g (length (now dst)) ⌝ }
+    requires { ⌜ Checked (recordBy h counts (now chunk) (now «color_ends») (now «color_sels») (now «alpha_ends») (now «alpha_sels»)) (now seg) (lentOf (now «color_endpoints») (now «color_selectors») (now «alpha_endpoints») (now «alpha_selectors»)) g (length (now dst)) ⌝ }
     requires { ⌜ AllFair counts (now chunk) (now «color_ends») (now «color_sels») (now «alpha_ends») (now «alpha_sels») (s .«sorted_step») ⌝ ∗ ⌜ Able s (length (now lookup)) (length (now sorted)) ⌝ }
     ensures { λ r. ⌜ Unpacks (drawnLevel (recordBy h counts (now (chunk .entry)) (now («color_ends» .entry)) (now («color_sels» .entry)) (now («alpha_ends» .entry)) (now («alpha_sels» .entry))) (now (seg .entry)) (lentOf (now («color_endpoints» .entry)) (now («color_selectors» .entry)) (now («alpha_endpoints» .entry)) (now («alpha_selectors» .entry))) g (now (budget .entry)) (now (dst .entry))) (now (budget .entry)) (now (budget .exit)) (now (dst .exit)) r ⌝ }
 {
@@ -218,7 +218,7 @@ pub fn draw_level<'a>(
     budget: &mut u64,
     dst: &mut [u8],
 ) -> Unpacked
-    requires { ⌜ Checked (recordBy h counts (now chunk) (now «color_ends») (now «color_sels») (now «alpha_ends») (now «alpha_sels»)) (now seg) g (length (now dst)) ⌝ }
+    requires { ⌜ Checked (recordBy h counts (now chunk) (now «color_ends») (now «color_sels») (now «alpha_ends») (now «alpha_sels»)) (now seg) (lentOf (now «color_endpoints») (now «color_selectors») (now «alpha_endpoints») (now «alpha_selectors»)) g (length (now dst)) ⌝ }
     requires { ⌜ Long (tablesBy counts (now chunk) (now «color_ends») (now «color_sels») (now «alpha_ends») (now «alpha_sels»)) ⌝ }
     ensures { λ r. ⌜ Unpacks (drawnLevel (recordBy h counts (now (chunk .entry)) (now («color_ends» .entry)) (now («color_sels» .entry)) (now («alpha_ends» .entry)) (now («alpha_sels» .entry))) (now (seg .entry)) (lentOf (now («color_endpoints» .entry)) (now («color_selectors» .entry)) (now («alpha_endpoints» .entry)) (now («alpha_selectors» .entry))) g (now (budget .entry)) (now (dst .entry))) (now (budget .entry)) (now (budget .exit)) (now (dst .exit)) r ⌝ }
 {

@@ -17,6 +17,7 @@ use Rattle.crn_format.specs.Grid.{Shade, half, halves, little, nthList, blockOf
 use Rattle.crn_format.specs.Opening.{Palettes}
 use Rattle.crn_format.specs.declared.Grid.{Grid}
 use Rattle.crn_chunks.specs.Meaning.{row, chunkOf}
+use Rattle.crn_chunks.specs.Reads.{insideOf}
 use Rattle.crn_chunks.specs.declared.Planes.{Planes}
 use Rattle.crn_blocks.specs.Sheet.{In, Covered}
 use Rattle.crn_blocks.specs.Halves.{Half}
@@ -174,6 +175,19 @@ module _ (g : Grid) (f cx cy q : ℕ) (right bottom : Bool) (in-chunk : Covered 
       (λ h. misses cx (g .columns) (q % 2) (omega arith) (in-chunk .column) right (eqb (q % 2) 0) (is .0) (λ z y. eqb-false (q % 2) 0 z y) h (at .column))
       (λ h. misses cy (g .rows) (q / 2) (omega arith) (in-chunk .row) bottom (ltb q 2) (is .1) (λ z y. let l = ltb-false q 2 z in omega arith) h (at .row))
       (one-fails (right || eqb (q % 2) 0) (bottom || ltb q 2) e)
+
+-- as the chunk's reading has it
+pub inside-so : (right bottom : Bool) (q : ℕ) → q < 4 → ((right || eqb (q % 2) 0) && (bottom || ltb q 2)) ≡ true → getD (insideOf right bottom) q true ≡ true
+inside-so right bottom zero h e = refl
+inside-so true bottom (suc zero) h e = refl
+inside-so false bottom (suc zero) h e = e
+inside-so right true (suc (suc zero)) h e = refl
+inside-so true false (suc (suc zero)) h e = e
+inside-so false false (suc (suc zero)) h e = e
+inside-so true true (suc (suc (suc zero))) h e = refl
+inside-so true false (suc (suc (suc zero))) h e = e
+inside-so false bottom (suc (suc (suc zero))) h e = e
+inside-so right bottom (suc (suc (suc (suc q)))) h e = absurd (omega arith)
 
 -- where a position's block starts, from where the chunk's first does
 pub place-by : (g : Grid) (f cx cy q : ℕ) → f * g .distance + 2 * cy * g .pitch + 2 * cx * g .bytes + q / 2 * g .pitch + q % 2 * g .bytes

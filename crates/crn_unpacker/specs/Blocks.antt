@@ -1,14 +1,19 @@
 -- The block at each position of a chunk that was read, and what placing it asks.
-use Prim.Native.Nat.{ℕ, _%_, _<_}
+use Prim.Native.Nat.{ℕ, _+_, _%_, _<_}
 use mathlib.Core.Path.{_≡_}
+use mathlib.Core.Bool.{Bool, true}
 use mathlib.Core.List.{List}
+use lib.ListN.{getD}
 use Rattle.crn_format.specs.Choice.{pick}
+use Rattle.crn_format.specs.Level.{tileAt}
 use Rattle.crn_format.specs.Grid.{blockOf}
 use Rattle.crn_format.specs.Opening.{Palettes}
 use Rattle.crn_format.specs.declared.Grid.{Grid}
 use Rattle.crn_chunks.specs.Meaning.{row, chunkOf}
+use Rattle.crn_chunks.specs.Reads.{insideOf}
 use Rattle.crn_chunks.specs.declared.Planes.{Planes}
 use Rattle.crn_blocks.specs.Sheet.{Room}
+use Rattle.crn_blocks.specs.Halves.{Has}
 use Rattle.crn_unpacker.specs.Going.{shadeOf}
 
 abbrev pub held : List ℕ → List ℕ → List ℕ → List ℕ → Palettes
@@ -25,3 +30,12 @@ pub record Placeable (ps : Planes) (g : Grid) (e n : ℕ) : Type 0 where
   pub bytes : g .bytes ≡ pick (ps .two) 16 8
   pub room : Room g n
   pub known : e < 8
+
+-- the palettes have the entries of the block at position q, whose tile is given
+pub record Filled (p : Palettes) (ps : Planes) (out : List ℕ) (tile q : ℕ) : Type 0 where
+  pub first : Has (shadeOf p (ps .first)) (getD out tile 0) (getD out (8 + q) 0)
+  pub second : ps .two ≡ true → Has (shadeOf p (ps .second)) (getD out (4 + tile) 0) (getD out (12 + q) 0)
+
+-- the same for each position inside the grid
+abbrev pub AllFilled : Palettes → Planes → ℕ → List ℕ → Bool → Bool → Type 0
+AllFilled p ps e out right bottom = (q : ℕ) → q < 4 → getD (insideOf right bottom) q true ≡ true → Filled p ps out (tileAt e q) q

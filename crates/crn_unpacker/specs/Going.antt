@@ -18,6 +18,7 @@ use Rattle.crn_chunks.specs.declared.Carried.{Carried}
 use Rattle.crn_chunks.specs.declared.Stream.{Stream}
 use Rattle.crn_chunks.specs.declared.Stop.{Stop}
 use Rattle.crn_blocks.specs.Sheet.{Room, Painted, Outside}
+use Rattle.crn_blocks.specs.Halves.{Reach}
 use Rattle.crn_unpacker.specs.States.{stateTo, chunkTo}
 use Rattle.crn_unpacker.specs.declared.Went.{Went}
 use Rattle.crn_unpacker.specs.declared.Went.the-variants.{On, Stopped}
@@ -42,18 +43,23 @@ given lookup sorted seg ends sels alphaEnds alphaSels ps g =
       grid = g;
     }
 
+-- a plane's palettes
+unfoldable pub shadeOf : Palettes → Side → Shade
+shadeOf p s = pick (s .alpha) (alpha (p .alphaEnds) (p .alphaSels)) (color (p .colorEnds) (p .colorSels))
+
+-- they have as many entries as the plane says
+abbrev pub Reaches : Palettes → Side → Type 0
+Reaches p s = Reach (shadeOf p s) (s .endpoints) (s .selectors)
+
 -- it can be gone over, into n bytes
 pub record Fit (l : Given) (n : ℕ) : Type 0 where
   pub short : length (l .seg) < tooLong
   pub served : Served (l .planes) (l .lookup) (l .sorted)
   pub bytes : l .grid .bytes ≡ pick (l .planes .two) 16 8
   pub room : Room (l .grid) n
+  pub reach : Reaches (l .palettes) (l .planes .first) × Reaches (l .palettes) (l .planes .second)
 
 -- ---- the run
-
--- a plane's palettes
-unfoldable pub shadeOf : Palettes → Side → Shade
-shadeOf p s = pick (s .alpha) (alpha (p .alphaEnds) (p .alphaSels)) (color (p .colorEnds) (p .colorSels))
 
 abbrev pub shades : Given → List Shade
 shades l = row (l .planes .two) (shadeOf (l .palettes) (l .planes .first)) (shadeOf (l .palettes) (l .planes .second))

@@ -5,10 +5,11 @@ ghost use lib.ListN.{length};
 ghost use lib.Seq.{sets};
 ghost use lib.Dec.{ltb};
 ghost use Rattle.crn_format.specs.Choice.{pick};
+ghost use Rattle.crn_format.specs.Level.{tileAt};
 ghost use Rattle.crn_blocks.specs.Sheet.{Covered, Painted, chunkNumber};
-ghost use Rattle.crn_blocks.specs.Halves.{Half};
+ghost use Rattle.crn_blocks.specs.Halves.{Half, Has};
 ghost use Rattle.crn_unpacker.specs.Going.{shadeOf};
-ghost use Rattle.crn_unpacker.specs.Blocks.{held, blockIn, Placeable};
+ghost use Rattle.crn_unpacker.specs.Blocks.{held, blockIn, Placeable, Filled, AllFilled};
 use crn_blocks::alpha_half;
 use crn_blocks::color_half;
 use crn_blocks::put_eight;
@@ -26,6 +27,7 @@ fn plane_half(
     e: u64,
     s: u64,
 ) -> u64
+    requires { ⌜ Has (shadeOf (held (now cends) (now csels) (now aends) (now asels)) p) e s ⌝ }
     ensures { λ r. ⌜ Half (shadeOf (held (now (cends .entry)) (now (csels .entry)) (now (aends .entry)) (now (asels .entry))) p) e s r ⌝ }
 {
     let of_alpha = p.alpha;
@@ -48,7 +50,7 @@ fn block(
     at: usize,
     q: usize,
 )
-    requires { ⌜ e < 8 ⌝ ∗ ⌜ q < 4 ⌝ ∗ ⌜ at + pick (ps .two) 16 8 ≤ length (now dst) ⌝ }
+    requires { ⌜ e < 8 ⌝ ∗ ⌜ q < 4 ⌝ ∗ ⌜ at + pick (ps .two) 16 8 ≤ length (now dst) ⌝ ∗ ⌜ Filled (held (now cends) (now csels) (now aends) (now asels)) ps (now out) (tileAt e q) q ⌝ }
     ensures { λ _. ⌜ now (dst .exit) ≡ sets (now (dst .entry)) at (blockIn (held (now (cends .entry)) (now (csels .entry)) (now (aends .entry)) (now (asels .entry))) ps e (now (out .entry)) q) ⌝ }
 {
     let tile = crn_consts::tile(e, q as u32) as usize;
@@ -88,7 +90,7 @@ pub fn blocks(
     right: bool,
     bottom: bool,
 )
-    requires { ⌜ Placeable ps g e (length (now dst)) ⌝ ∗ ⌜ Covered g face cx cy ⌝ ∗ ⌜ (right ≡ ltb (2 * cx + 1) (g .columns)) × (bottom ≡ ltb (2 * cy + 1) (g .rows)) ⌝ }
+    requires { ⌜ Placeable ps g e (length (now dst)) ⌝ ∗ ⌜ Covered g face cx cy ⌝ ∗ ⌜ (right ≡ ltb (2 * cx + 1) (g .columns)) × (bottom ≡ ltb (2 * cy + 1) (g .rows)) ⌝ ∗ ⌜ AllFilled (held (now cends) (now csels) (now aends) (now asels)) ps e (now out) right bottom ⌝ }
     ensures { λ _. ⌜ Painted g (blockIn (held (now (cends .entry)) (now (csels .entry)) (now (aends .entry)) (now (asels .entry))) ps e (now (out .entry))) (4 * chunkNumber g face cx cy) (4 * chunkNumber g face cx cy + 4) (now (dst .entry)) (now (dst .exit)) ⌝ }
 {
     let base = face * g.distance + 2 * cy * g.pitch + 2 * cx * g.bytes;

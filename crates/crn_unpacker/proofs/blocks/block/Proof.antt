@@ -1,9 +1,13 @@
 -- The halves are those of the position in the chunk that was read, one after the other.
-use mathlib.Core.Path.{ap, _∙_}
+use Prim.Native.Nat.{ℕ, _+_}
+use mathlib.Core.Path.{sym, ap, subst, _∙_}
 use native.Mathlib.Omega.{arith}
+use lib.ListN.{getD}
 use lib.Seq.{sets}
 use Rattle.crn_format.specs.Opening.{Palettes}
+use Rattle.crn_blocks.specs.Halves.{Has}
 use Rattle.crn_blocks.proofs.Putting.{put-both}
+use Rattle.crn_unpacker.specs.Going.{shadeOf}
 use Rattle.crn_unpacker.specs.Blocks.{held}
 use Rattle.crn_unpacker.proofs.Positions.{of-one, of-two, eight-fit, sixteen-fit}
 use borrow.Author.Needs.{needs}
@@ -38,10 +42,13 @@ element-copy-out-plane-half-2 : tie.Need-element-copy-out-plane-half-2
 element-copy-out-plane-half-2 c = search needs
 
 plane-half-requires : tie.Need-plane-half-requires
-plane-half-requires c κs = search needs
+plane-half-requires c κs =
+    let s = c .before .before .before .before .before .before .before .before .before in
+    let a = s .args in
+    subst (λ (k : ℕ). Has (shadeOf (palettes s) (a .ps .first)) (getD (a .out .now) k 0) (getD (a .out .now) (8 + a .q) 0)) (sym (c .before .before .before .tile .ensures .0)) (s .pre .1 .1 .1 .first)
 
 put-eight-requires : tie.Need-put-eight-requires
-put-eight-requires c κs = let s = c .before .before .before .before .before .before .before .before .before .before .before in eight-fit (s .args .ps .two) _ _ (s .pre .1 .1)
+put-eight-requires c κs = let s = c .before .before .before .before .before .before .before .before .before .before .before in eight-fit (s .args .ps .two) _ _ (s .pre .1 .1 .0)
 
 add-plane-half-2 : tie.Need-add-plane-half-2
 add-plane-half-2 c = search needs
@@ -62,7 +69,10 @@ element-copy-out-plane-half-4 : tie.Need-element-copy-out-plane-half-4
 element-copy-out-plane-half-4 c = search needs
 
 plane-half-requires-2 : tie.Need-plane-half-requires-2
-plane-half-requires-2 c κs = search needs
+plane-half-requires-2 c κs =
+    let s = c .before .before .before .before .before .before .before .before .before .before .before .before .before .before .before .before .before .before in
+    let a = s .args in
+    subst (λ (k : ℕ). Has (shadeOf (palettes s) (a .ps .second)) (getD (a .out .now) (4 + k) 0) (getD (a .out .now) (12 + a .q) 0)) (sym (c .before .before .before .before .before .before .before .before .before .before .before .before .tile .ensures .0)) (s .pre .1 .1 .1 .second (c .before .before .before .if1 .taken))
 
 add-put-eight : tie.Need-add-put-eight
 add-put-eight c = search needs
@@ -70,7 +80,7 @@ add-put-eight c = search needs
 put-eight-requires-2 : tie.Need-put-eight-requires-2
 put-eight-requires-2 c κs =
     let s = c .before .before .before .before .before .before .before .before .before .before .before .before .before .before .before .before .before .before .before .before in
-    omega (arith, sixteen-fit (s .args .ps .two) _ _ (c .before .before .before .before .before .if1 .taken) (s .pre .1 .1), c .before .before .before .before .before .before .before .before .put-eight .kept .0)
+    omega (arith, sixteen-fit (s .args .ps .two) _ _ (c .before .before .before .before .before .if1 .taken) (s .pre .1 .1 .0), c .before .before .before .before .before .before .before .before .put-eight .kept .0)
 
 same-length : tie.Need-same-length
 same-length c = search needs

@@ -9,7 +9,7 @@ use Rattle.crn_blocks.specs.Sheet.{In, Painted, chunkNumber}
 use Rattle.crn_blocks.proofs.Places.{Lies, lies, room-kept}
 use Rattle.crn_blocks.proofs.Paint.{start, then, until, put-in, skipped}
 use Rattle.crn_unpacker.specs.Blocks.{held, blockIn}
-use Rattle.crn_unpacker.proofs.Positions.{same-block, block-sized, in-grid, off-grid, place-by, first-in}
+use Rattle.crn_unpacker.proofs.Positions.{same-block, block-sized, in-grid, off-grid, inside-so, place-by, first-in}
 use Rattle.crn_unpacker.proofs.blocks.blocks.Statement.{statement}
 use Rattle.crn_unpacker.proofs.blocks.blocks.Tie as tie
 use Rattle.crn_unpacker.proofs.blocks.blocks.Reads as reads
@@ -63,7 +63,7 @@ entry c = c .before .before .before .before .before .before .before .before .bef
 here : (c : Inside) → In (entry c .args .g) (entry c .args .face) (2 * entry c .args .cx + c .before .before .loop .q % 2) (2 * entry c .args .cy + c .before .before .loop .q / 2)
 here c =
     let a = entry c .args in
-    in-grid (a .g) (a .face) (a .cx) (a .cy) (c .before .before .loop .q) (a .right) (a .bottom) (entry c .pre .1 .0) (c .before .loop-test .taken) (entry c .pre .1 .1) (c .if1 .taken)
+    in-grid (a .g) (a .face) (a .cx) (a .cy) (c .before .before .loop .q) (a .right) (a .bottom) (entry c .pre .1 .0) (c .before .loop-test .taken) (entry c .pre .1 .1 .0) (c .if1 .taken)
 
 there : (c : Inside) → Lies (entry c .args .g) (entry c .args .face) (2 * entry c .args .cx + c .before .before .loop .q % 2) (2 * entry c .args .cy + c .before .before .loop .q / 2) (length (entry c .args .dst .now))
 there c = lies (entry c .pre .0 .room) (here c)
@@ -94,7 +94,9 @@ block-requires : tie.Need-block-requires Inv-loop μ-loop
 block-requires c κs =
     let s = c .before .before .before .before .before .before .before .before .before .before .before .before .before .before in
     let l = there (c .before .before .before) in
-    (s .pre .0 .known, (c .before .before .before .before .loop-test .taken, omega (arith, placed (c .before .before .before), c .before .before .before .before .before .loop .inv .1 .long, s .pre .0 .bytes)))
+    let q = c .before .before .before .before .before .loop .q in
+    let t = c .before .before .before .before .loop-test .taken in
+    (s .pre .0 .known, (t, (omega (arith, placed (c .before .before .before), c .before .before .before .before .before .loop .inv .1 .long, s .pre .0 .bytes), s .pre .1 .1 .1 q t (inside-so (s .args .right) (s .args .bottom) q t (c .before .before .before .if1 .taken)))))
 
 add-q : tie.Need-add-q Inv-loop μ-loop
 add-q c = omega (arith, c .before .loop-test .taken)
@@ -124,7 +126,7 @@ loop-again c =
           rw (w .1)
           (until (omega arith)
           (then (s .pre .0 .room) (omega arith) (omega arith) (i .1)
-          (skipped (a .face) (a .cx) (a .cy) q (s .pre .1 .0) t (off-grid (a .g) (a .face) (a .cx) (a .cy) q (a .right) (a .bottom) (s .pre .1 .0) t (s .pre .1 .1) (w .0 .left))))))
+          (skipped (a .face) (a .cx) (a .cy) q (s .pre .1 .0) t (off-grid (a .g) (a .face) (a .cx) (a .cy) q (a .right) (a .bottom) (s .pre .1 .0) t (s .pre .1 .1 .0) (w .0 .left))))))
           (c .if1 .came),
     )
 

@@ -1,18 +1,19 @@
 -- A plane is an alpha or a colour plane.
-use borrow.Author.Needs.{needs}
 use Rattle.crn_unpacker.specs.Going.{shadeOf}
 use Rattle.crn_unpacker.proofs.blocks.plane_half.Statement.{statement}
 use Rattle.crn_unpacker.proofs.blocks.plane_half.Tie as tie
 
 alpha-half-requires : tie.Need-alpha-half-requires
-alpha-half-requires c κs = search needs
+unfolding shadeOf
+alpha-half-requires c κs = rw (c .if1 .taken) at (c .before .before .before .before .before .pre)
 
 returns : tie.Need-returns
 unfolding shadeOf
 returns c = rw (c .before .if1 .taken) (c .alpha-half .ensures)
 
 color-half-requires : tie.Need-color-half-requires
-color-half-requires c κs = search needs
+unfolding shadeOf
+color-half-requires c κs = rw (c .if1 .left) at (c .before .before .before .before .before .pre)
 
 returns-2 : tie.Need-returns-2
 unfolding shadeOf
