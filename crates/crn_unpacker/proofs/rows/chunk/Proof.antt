@@ -1,6 +1,7 @@
 -- A chunk that is read is one chunk more of the run, and one that is refused ends it.
 use mathlib.Core.Path.{refl}
 use borrow.Author.Needs.{needs}
+use Rattle.crn_unpacker.proofs.Ranges.{filled}
 use Rattle.crn_unpacker.proofs.Steps.{chunk-goes, chunk-stops}
 use Rattle.crn_unpacker.proofs.rows.chunk.Statement.{statement}
 use Rattle.crn_unpacker.proofs.rows.chunk.Tie as tie
@@ -29,7 +30,7 @@ enum-known-a-2 c = search needs
 blocks-requires : tie.Need-blocks-requires
 blocks-requires c κs =
     let s = c .before .before .before .before .before .before .before .before .before .before .before .before .before .before .before in
-    (record { bytes = s .pre .0 .bytes; room = s .pre .0 .room; known = c .before .before .before .before .before .read-chunk .ensures .on _ _ _ (c .before .before .before .a2 .given .1) .1 }, (s .pre .1 .1, (refl, refl)))
+    (record { bytes = s .pre .0 .bytes; room = s .pre .0 .room; known = c .before .before .before .before .before .read-chunk .ensures .on _ _ _ (c .before .before .before .a2 .given .1) .1 }, (s .pre .1 .1, ((refl, refl), filled (c .before .before .before .before .before .read-chunk .ensures) (c .before .before .before .a2 .given .1) (s .pre .0 .served) _ (s .pre .0 .reach))))
 
 returns : tie.Need-returns
 returns c =
