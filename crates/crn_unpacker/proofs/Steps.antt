@@ -30,6 +30,7 @@ use Rattle.crn_unpacker.specs.Going.{Given, Fit, Course, Stands, Gone, H
 use Rattle.crn_unpacker.specs.Blocks.{blockIn}
 use Rattle.crn_unpacker.specs.declared.Went.{Went}
 use Rattle.crn_unpacker.specs.declared.Went.the-variants.{On, Stopped}
+use Rattle.crn_unpacker.proofs.Ranges.{read-so}
 use Rattle.crn_unpacker.proofs.States.{state-got, state-lost, chunk-got, stays}
 
 -- ---- the answers
@@ -154,22 +155,17 @@ module _ (l : Given) (f cx cy : ℕ) {r : Carried} {s : Stream} {out : List ℕ}
         moved = λ h st. moved-on (gone h st);
       }
     where
-      read : (h : Course) → Stands l h number r s
-          → run (source (l .seg)) (chunk (h .codes 0) (planes (h .codes) (l .planes)) (insideOf (ltb (2 * cx + 1) (l .grid .columns)) (ltb (2 * cy + 1) (l .grid .rows))) (runningOf (l .planes .two) r)) (spending s)
-          ≡ got (chunkOf (l .planes .two) e out, runningOf (l .planes .two) n) (spending t)
-      read h st = sym (reads .same (h .codes) (st .coded)) ∙ ap (chunked (l .planes .two) out) is ∙ (unfold chunked in refl)
-
       value : (h : Course) → Stands l h number r s → (u : ℕ) → 4 * number ≤ u → u < 4 * number + 4
           → blockIn (l .palettes) (l .planes) e out u ≡ blockHere l h u
       value h st u lo hi =
-          let is : u / 4 ≡ number = omega arith in
-          let here : chunkHere l h number ≡ chunkOf (l .planes .two) e out = chunk-got _ _ _ _ _ _ number _ (st .state) (sym (inside-of (l .grid) f cx cy at)) (read h st) in
-          same-block l h e out number u is here
+          let here-now : u / 4 ≡ number = omega arith in
+          let here : chunkHere l h number ≡ chunkOf (l .planes .two) e out = chunk-got _ _ _ _ _ _ number _ (st .state) (sym (inside-of (l .grid) f cx cy at)) (read-so reads is (h .codes) (st .coded)) in
+          same-block l h e out number u here-now here
 
       gone : (h : Course) → Stands l h number r s → Gone l h number (number + 1) d d′ n t
       gone h st =
           record {
-            state = state-got _ _ _ _ _ _ number _ (st .state) (sym (inside-of (l .grid) f cx cy at)) (read h st);
+            state = state-got _ _ _ _ _ _ number _ (st .state) (sym (inside-of (l .grid) f cx cy at)) (read-so reads is (h .codes) (st .coded));
             paint = paint.until (omega arith) (revalued (value h st) painted);
           }
 
