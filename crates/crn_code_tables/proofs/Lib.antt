@@ -3,3 +3,4 @@ pub mod Sending
 pub mod Running
 pub mod Putting
 pub mod Receiving
+pub mod Growing

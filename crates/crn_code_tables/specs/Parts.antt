@@ -1,16 +1,21 @@
 -- What the functions that receive the parts of a code table answer.
-use Prim.Native.Nat.{ℕ, _+_, _<_}
+use Prim.Native.Nat.{ℕ, _-_, _<_}
+use mathlib.Core.Bool.{true}
 use mathlib.Core.Path.{_≡_}
 use mathlib.Core.List.{List, []}
-use lib.ListN.{length, replicate}
-use Rattle.crn_format.specs.Reading.{Reading, draw, number, answer, next, Step, got, refused, Place, spot, run, fromBits}
-use Rattle.crn_format.specs.Tables.{lengthOrder, sentLengths, again, runOf, lengthsFrom, checked}
+use lib.ListN.{length, take, drop, replicate}
+use lib.Dec.{eqb}
+use Rattle.crn_format.specs.Choice.{pick}
+use Rattle.crn_format.specs.Limits.{maxSymbols}
+use Rattle.crn_format.specs.Codes.{room as roomOf, allFit}
+use Rattle.crn_format.specs.Reading.{Reading, next, Step, got, refused, Place, spot, run, fromBits}
+use Rattle.crn_format.specs.Tables.{lengthOrder, sentLengths, lengthsFrom, checked}
 use Rattle.crn_format.specs.Opening.{tableOf}
 use Rattle.crn_symbol_codec.specs.Cursors.{place, Holds}
+use Rattle.crn_symbol_codec.specs.Decoders.{Decodes}
 use Rattle.crn_symbol_codec.specs.declared.Cursor.{Cursor}
 use Rattle.crn_code_tables.specs.declared.Received.{Received}
-use Rattle.crn_code_tables.specs.declared.parts.Run.{Run}
-use Rattle.crn_code_tables.specs.declared.parts.Run.the-variants.{Of, Refused}
+use Rattle.crn_code_tables.specs.declared.parts.Ran.{Ran}
 use Rattle.crn_code_tables.specs.declared.parts.Sent.{Sent}
 use Rattle.crn_code_tables.specs.Receiving.{said, heldBy}
 
@@ -24,35 +29,27 @@ pub record Sends (seg : List ℕ) (n : ℕ) (c : Cursor) (r : Sent) : Type 0 whe
 
 -- ---- a run of lengths
 
--- zeros, and the last length again; the count is `base` more than a number of n bits
-abbrev pub zeroRun : ℕ → ℕ → Reading (ℕ × ℕ)
-zeroRun n base = number n λ x. answer (base + x, 0)
+-- how many bits say how long the run of a length symbol above 16 is, and how long it is at least
+abbrev pub extraOf : ℕ → ℕ
+extraOf s = pick (eqb s 17) 3 (pick (eqb s 18) 7 (pick (eqb s 19) 2 6))
 
-abbrev pub lastRun : ℕ → ℕ → ℕ → Reading (ℕ × ℕ)
-lastRun n base last = number n λ x. again last (base + x)
+abbrev pub leastOf : ℕ → ℕ
+leastOf s = pick (eqb s 17) 3 (pick (eqb s 18) 11 (pick (eqb s 19) 3 7))
 
--- a run, from its length symbol in the code cl on
-abbrev pub drawnRun : List ℕ → ℕ → Reading (ℕ × ℕ)
-drawnRun cl last = draw cl (runOf last)
+-- r tells how a reading of `count` lengths ended, which are the first of `lent`, in the code of a decoder table; where it was accepted, those after them are 0
+pub record Runs (lookup sorted seg : List ℕ) (c : Cursor) (count : ℕ) (r : Ran) (lent : List ℕ) : Type 0 where
+  pub long : length lent ≡ maxSymbols
+  pub holds : Holds seg (r .cursor)
+  pub blamed : ℕ
+  pub same : (cl : List ℕ) → Decodes cl lookup sorted → run (fromBits seg) (lengthsFrom cl count count 0 []) (spot (place c) (place c))
+      ≡ said (r .refusal) (place (r .cursor)) (take count lent) blamed
+  pub rest : r .refusal ≡ 0 → drop count lent ≡ replicate (maxSymbols - count) 0
+  pub fits : r .refusal ≡ 0 → allFit (take count lent) count ≡ true
+  pub room : r .refusal ≡ 0 → r .room ≡ roomOf (take count lent) count
 
 -- all runs of `count` lengths, which have to make a code
 abbrev pub allRuns : List ℕ → ℕ → Reading (List ℕ)
 allRuns cl count = next (lengthsFrom cl count count 0 []) checked
-
--- the answer as a step over the segment's bits, where b is blamed
-abbrev pub ran : ℕ → Run → Step Place (ℕ × ℕ)
-ran b (Of n v d) = got (n, v) (spot (place d) b)
-ran b (Refused k e) = refused k (spot (place e) (place e))
-
--- a run adds one length at least; no refusal is 0
-abbrev pub RunHolds : List ℕ → Run → Type 0
-RunHolds seg (Of n v d) = Holds seg d × (0 < n)
-RunHolds seg (Refused k e) = Holds seg e × (0 < k)
-
--- r is what reading m at the cursor's place gives, where b is blamed
-pub record Runs (seg : List ℕ) (m : Reading (ℕ × ℕ)) (c : Cursor) (b : ℕ) (r : Run) : Type 0 where
-  pub same : run (fromBits seg) m (spot (place c) b) ≡ ran b r
-  pub holds : RunHolds seg r
 
 -- ---- a table
 

@@ -1,23 +1,24 @@
 // The parts of a code table as it is sent (document 01, Codes).
 ghost use mathlib.Core.Path.{_≡_};
 ghost use mathlib.Core.List.{List};
-ghost use Prim.Native.Nat.{ℕ, _+_, _<_, _≤_};
+ghost use Prim.Native.Nat.{ℕ, _+_, _*_, _<_, _≤_};
 ghost use lib.ListN.{length, replicate};
 ghost use lib.Seq.{paste};
-ghost use Rattle.crn_format.specs.Limits.{maxSymbols, tooLong};
+ghost use Rattle.crn_format.specs.Limits.{maxSymbols, maxLength, tooLong};
 ghost use Rattle.crn_format.specs.Reading.{spot, run, fromBits};
-ghost use Rattle.crn_format.specs.Tables.{runOf, coded, counted, table};
+ghost use Rattle.crn_format.specs.Tables.{coded, counted, table};
 ghost use Rattle.crn_symbol_codec.specs.Cursors.{place as «placeOf», Holds};
 ghost use Rattle.crn_symbol_codec.specs.Decoders.{Decodes, SomeCode};
-ghost use Rattle.crn_code_tables.specs.Parts.{Sends, zeroRun, lastRun, drawnRun, allRuns, Runs, declined, Tells, TellsAt};
+ghost use Rattle.crn_static_huffman_data_model.specs.Building.{shareOf};
+ghost use Rattle.crn_code_tables.specs.Parts.{Sends, extraOf, leastOf, Runs, allRuns, declined, Tells, TellsAt};
 use crate::Received;
 use crn_short_draw::draw;
+use crn_short_draw::number;
 use crn_short_draw::ready;
 use crn_static_huffman_data_model::build;
 use crn_static_huffman_data_model::is_code;
 use crn_symbol_codec::Cursor;
 use crn_symbol_codec::Taken;
-use crn_symbol_codec::number;
 use crn_symbol_codec::place;
 use crn_symbol_codec::refusal;
 
@@ -28,10 +29,11 @@ struct Sent {
     lengths: [u8; 21],
 }
 
-// A run of code lengths: how many, which, and the cursor after it; or the refusal and the cursor at the bit that it names.
-enum Run {
-    Of(usize, u8, Cursor),
-    Refused(u32, Cursor),
+// The lengths of a table: refusal 0, the cursor after them and the room that their codes take; or the refusal, the cursor at the bit that it names and 0.
+struct Ran {
+    refusal: u32,
+    cursor: Cursor,
+    room: u32,
 }
 
 // A refusal that names the bit at a cursor. The cursor `home` is handed back.
@@ -56,7 +58,8 @@ fn sent_lengths(seg: &[u8], c: Cursor, n: usize) -> Sent
     let mut at = c;
     let mut i: usize = 0;
     while i < n {
-        let Taken::Value(l, d) = number(seg, at, 3) else {
+        let near = ready(seg, at);
+        let Taken::Value(l, d) = number(seg, near, 3) else {
             return Sent {
                 refusal: 8,
                 cursor: at,
@@ -75,49 +78,47 @@ fn sent_lengths(seg: &[u8], c: Cursor, n: usize) -> Sent
     }
 }
 
-// A run of zeros: `base` more than a number of n bits.
-fn zeros(seg: &[u8], c: Cursor, n: u64, base: usize) -> Run
-    requires { ⌜ Holds (now seg) c ⌝ ∗ ⌜ (n ≤ 16) × (0 < base) × (base < 100) ⌝ }
-    ensures { λ r. ⌜ ((b : ℕ) → Runs (now (seg .entry)) (zeroRun n base) c b r) ⌝ }
+// How many bits say how long the run of a length symbol above 16 is.
+fn extra_bits(s: u32) -> u64
+    ensures { λ r. ⌜ (r ≡ extraOf s) × (r ≤ 7) ⌝ }
 {
-    let Taken::Value(x, d) = number(seg, c, n) else {
-        return Run::Refused(8, c);
-    };
-    Run::Of(base + x as usize, 0, d)
-}
-
-// The last length again, `base` more than a number of n bits times. There has to be one that is not zero, or the run's first bit is named, at `from`.
-fn repeat(seg: &[u8], c: Cursor, n: u64, base: usize, last: u8, from: Cursor) -> Run
-    requires { ⌜ Holds (now seg) c ⌝ ∗ ⌜ Holds (now seg) from ⌝ ∗ ⌜ (n ≤ 16) × (0 < base) × (base < 100) ⌝ }
-    ensures { λ r. ⌜ Runs (now (seg .entry)) (lastRun n base last) c («placeOf» from) r ⌝ }
-{
-    let Taken::Value(x, d) = number(seg, c, n) else {
-        return Run::Refused(8, c);
-    };
-    if last == 0 {
-        return Run::Refused(6, from);
-    }
-    Run::Of(base + x as usize, last, d)
-}
-
-// What the length symbol s, which stands at `from` and ends at c, adds to the lengths.
-fn run_of(seg: &[u8], s: u32, last: u8, c: Cursor, from: Cursor) -> Run
-    requires { ⌜ Holds (now seg) c ⌝ ∗ ⌜ Holds (now seg) from ⌝ }
-    ensures { λ r. ⌜ Runs (now (seg .entry)) (runOf last s) c («placeOf» from) r ⌝ }
-{
-    if s <= 16 {
-        return Run::Of(1, s as u8, c);
-    }
     if s == 17 {
-        return zeros(seg, c, 3, 3);
+        return 3;
     }
     if s == 18 {
-        return zeros(seg, c, 7, 11);
+        return 7;
     }
     if s == 19 {
-        return repeat(seg, c, 2, 3, last, from);
+        return 2;
     }
-    repeat(seg, c, 6, 7, last, from)
+    6
+}
+
+// And how long it is at least.
+fn least(s: u32) -> usize
+    ensures { λ r. ⌜ (r ≡ leastOf s) × (0 < r) × (r ≤ 11) ⌝ }
+{
+    if s == 17 {
+        return 3;
+    }
+    if s == 18 {
+        return 11;
+    }
+    if s == 19 {
+        return 3;
+    }
+    7
+}
+
+// The room that n codes of l bits take.
+fn room_of(n: usize, l: u8) -> u32
+    requires { ⌜ (n ≤ maxSymbols) × (l ≤ maxLength) ⌝ }
+    ensures { λ r. ⌜ (r ≡ n * shareOf l) × (r ≤ 65535 * n) ⌝ }
+{
+    if l == 0 {
+        return 0;
+    }
+    (n as u32) << (16 - l as u32)
 }
 
 // The `count` lengths from `at` on are v.
@@ -125,10 +126,6 @@ fn put_run(lengths: &mut [u8], at: usize, count: usize, v: u8)
     requires { ⌜ at + count ≤ length (now lengths) ⌝ }
     ensures { λ _. ⌜ now (lengths .exit) ≡ paste (now (lengths .entry)) at (replicate count v) count ⌝ }
 {
-    if count == 1 {
-        lengths[at] = v; // most runs are of one, for which a loop is dear
-        return;
-    }
     let mut j: usize = 0;
     while j < count {
         lengths[at + j] = v;
@@ -143,20 +140,89 @@ pub fn clear(lengths: &mut [u8; 8192])
     put_run(lengths, 0, 8192, 0);
 }
 
-// The run that begins at c, in the code of a decoder table.
-fn next_run(lookup: &[u32], sorted: &[u16], seg: &[u8], c: Cursor, last: u8) -> Run
-    requires { ⌜ Holds (now seg) c ⌝ ∗ ⌜ SomeCode (now lookup) (now sorted) ⌝ }
-    ensures { λ r. ⌜ ((cl : List ℕ) → Decodes cl (now (lookup .entry)) (now (sorted .entry)) → Runs (now (seg .entry)) (drawnRun cl last) c («placeOf» c) r) ⌝ }
+// The lengths of `count` symbols, run by run, in the code of a decoder table.
+fn lengths_by_runs(
+    lookup: &[u32],
+    sorted: &[u16],
+    seg: &[u8],
+    c: Cursor,
+    count: usize,
+    lengths: &mut [u8],
+) -> Ran
+    requires { ⌜ Holds (now seg) c ⌝ ∗ ⌜ count ≤ maxSymbols ⌝ ∗ ⌜ SomeCode (now lookup) (now sorted) ⌝ ∗ ⌜ now lengths ≡ replicate maxSymbols 0 ⌝ }
+    ensures { λ r. ⌜ Runs (now (lookup .entry)) (now (sorted .entry)) (now (seg .entry)) c count r (now (lengths .exit)) ⌝ }
 {
-    let near = ready(seg, c);
-    let t = draw(lookup, sorted, seg, near);
-    let Taken::Value(s, d) = t else {
-        return Run::Refused(refusal(t), c);
-    };
-    run_of(seg, s, last, d, c)
+    let mut done: usize = 0;
+    let mut last: u8 = 0;
+    let mut room: u32 = 0;
+    let mut at = c;
+    while done < count {
+        let near = ready(seg, at);
+        let t = draw(lookup, sorted, seg, near);
+        let Taken::Value(s, d) = t else {
+            return Ran {
+                refusal: refusal(t),
+                cursor: at,
+                room: 0,
+            };
+        };
+        if s <= 16 {
+            last = s as u8;
+            lengths[done] = last;
+            room += room_of(1, last);
+            done += 1;
+            at = d;
+            continue;
+        }
+        let close = ready(seg, d);
+        let Taken::Value(x, e) = number(seg, close, extra_bits(s)) else {
+            return Ran {
+                refusal: 8,
+                cursor: d,
+                room: 0,
+            };
+        };
+        let n = least(s) + x as usize;
+        if s <= 18 {
+            if count - done < n {
+                return Ran {
+                    refusal: 6,
+                    cursor: at,
+                    room: 0,
+                };
+            }
+            last = 0; // the lengths from here on are 0 already
+            done += n;
+            at = e;
+            continue;
+        }
+        if last == 0 {
+            return Ran {
+                refusal: 6,
+                cursor: at,
+                room: 0,
+            };
+        }
+        if count - done < n {
+            return Ran {
+                refusal: 6,
+                cursor: at,
+                room: 0,
+            };
+        }
+        put_run(lengths, done, n, last);
+        room += room_of(n, last);
+        done += n;
+        at = e;
+    }
+    Ran {
+        refusal: 0,
+        cursor: at,
+        room,
+    }
 }
 
-// The lengths of `count` symbols, run by run, in the code of a decoder table. They have to make a code themselves.
+// They have to make a code themselves, which the room tells that they take.
 fn table_by_runs(
     lookup: &[u32],
     sorted: &[u16],
@@ -169,26 +235,15 @@ fn table_by_runs(
     requires { ⌜ Holds (now seg) c ⌝ ∗ ⌜ length (now seg) < tooLong ⌝ ∗ ⌜ count ≤ maxSymbols ⌝ ∗ ⌜ SomeCode (now lookup) (now sorted) ⌝ ∗ ⌜ now lengths ≡ replicate maxSymbols 0 ⌝ }
     ensures { λ r. ⌜ ((cl : List ℕ) → Decodes cl (now (lookup .entry)) (now (sorted .entry)) → Tells (now (seg .entry)) home (run (fromBits (now (seg .entry))) (allRuns cl count) (spot («placeOf» c) («placeOf» c))) r (now (lengths .exit))) ⌝ }
 {
-    let mut done: usize = 0;
-    let mut last: u8 = 0;
-    let mut at = c;
-    while done < count {
-        match next_run(lookup, sorted, seg, at, last) {
-            Run::Of(n, v, d) => {
-                if count - done < n {
-                    return refused(seg, 6, at, home);
-                }
-                put_run(lengths, done, n, v);
-                done += n;
-                last = v;
-                at = d;
-            }
-            Run::Refused(k, e) => {
-                return refused(seg, k, e, home);
-            }
-        }
+    let ran = lengths_by_runs(lookup, sorted, seg, c, count, lengths);
+    let at = ran.cursor;
+    if ran.refusal != 0 {
+        return refused(seg, ran.refusal, at, home);
     }
-    if !is_code(&lengths[..count]) {
+    if ran.room == 0 {
+        return refused(seg, 6, at, home);
+    }
+    if 65536 < ran.room {
         return refused(seg, 6, at, home);
     }
     Received {
@@ -232,7 +287,7 @@ fn counted_table(seg: &[u8], c: Cursor, count: usize, home: Cursor, out: &mut [u
     requires { ⌜ Holds (now seg) c ⌝ ∗ ⌜ length (now seg) < tooLong ⌝ ∗ ⌜ count ≤ maxSymbols ⌝ ∗ ⌜ now out ≡ replicate maxSymbols 0 ⌝ }
     ensures { λ r. ⌜ TellsAt (now (seg .entry)) (counted count) c home r (now (out .exit)) ⌝ }
 {
-    let Taken::Value(n, d) = number(seg, c, 5) else {
+    let Taken::Value(n, d) = crn_symbol_codec::number(seg, c, 5) else {
         return refused(seg, 8, c, home);
     };
     if n == 0 {
@@ -249,7 +304,7 @@ pub fn sent_table(seg: &[u8], c: Cursor, out: &mut [u8]) -> Received
     requires { ⌜ Holds (now seg) c ⌝ ∗ ⌜ length (now seg) < tooLong ⌝ ∗ ⌜ now out ≡ replicate maxSymbols 0 ⌝ }
     ensures { λ r. ⌜ TellsAt (now (seg .entry)) table c c r (now (out .exit)) ⌝ }
 {
-    let Taken::Value(count, d) = number(seg, c, 14) else {
+    let Taken::Value(count, d) = crn_symbol_codec::number(seg, c, 14) else {
         return refused(seg, 8, c, c);
     };
     if count == 0 {

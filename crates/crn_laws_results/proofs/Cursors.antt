@@ -20,6 +20,7 @@ use Rattle.crn_symbol_codec.proofs.draw.Reads as draw
 use Rattle.crn_symbol_codec.specs.Decoders.{SomeCode}
 use Rattle.crn_short_draw.proofs.ready.Reads as ready
 use Rattle.crn_short_draw.proofs.draw.Reads as short-draw
+use Rattle.crn_short_draw.proofs.number.Reads as short-number
 use Rattle.crn_laws_results.specs.Settled.{Settled, SettledIf, alike}
 use Rattle.crn_laws_results.proofs.Steps.{got-tells, refused-tells, got-or-refused}
 
@@ -47,6 +48,9 @@ takes-settled {c = c} {r = r} {s = s} p q = took-tells (place c) r s (alike (p .
 
 pub number-settled : Settled number.Post (λ a r e. drew r)
 number-settled _ _ _ _ _ _ _ p q = takes-settled p q
+
+pub short-number-settled : Settled short-number.Post (λ a r e. drew r)
+short-number-settled _ _ _ _ _ _ _ p q = takes-settled p q
 
 -- ---- a draw, from a table that is some code's
 

@@ -1,8 +1,8 @@
-// A draw for the loops over many symbols.
+// A draw and a number for the loops over many of them.
 ghost use mathlib.Core.Path.{_≡_};
 ghost use mathlib.Core.List.{List};
-ghost use Prim.Native.Nat.{ℕ};
-ghost use Rattle.crn_format.specs.Reading.{aSymbol};
+ghost use Prim.Native.Nat.{ℕ, _≤_};
+ghost use Rattle.crn_format.specs.Reading.{aSymbol, aNumber};
 ghost use Rattle.crn_symbol_codec.specs.Cursors.{place, Holds};
 ghost use Rattle.crn_symbol_codec.specs.Decoders.{Usable, Decodes};
 ghost use Rattle.crn_symbol_codec.specs.Taking.{Takes};
@@ -10,8 +10,8 @@ use crn_symbol_codec::Cursor;
 use crn_symbol_codec::Taken;
 use crn_symbol_codec::refill;
 
-// The compiler takes a function into its callers up to a certain length. These two are short enough one by one, so that the cursor stays in
-// registers; what is rare is left to `crn_symbol_codec::draw`.
+// The compiler takes a function into its callers up to a certain length. These are short enough one by one, so that the cursor stays in
+// registers; what is rare is left to the functions of `crn_symbol_codec`.
 
 // The cursor with 16 bits and more, but near the segment's end.
 pub fn ready(seg: &[u8], c: Cursor) -> Cursor
@@ -64,6 +64,35 @@ pub fn draw(lookup: &[u32], sorted: &[u16], seg: &[u8], c: Cursor) -> Taken
     let have = c.have - l;
     Taken::Value(
         e / 32,
+        Cursor {
+            bits,
+            have,
+            next: c.next,
+        },
+    )
+}
+
+// A number of n bits, as `crn_symbol_codec::number` answers.
+pub fn number(seg: &[u8], c: Cursor, n: u64) -> Taken
+    requires { ⌜ Holds (now seg) c ⌝ ∗ ⌜ n ≤ 16 ⌝ }
+    ensures { λ r. ⌜ Takes (now (seg .entry)) (aNumber n) c r ⌝ }
+{
+    if c.have < 16 {
+        return crn_symbol_codec::number(
+            seg,
+            Cursor {
+                bits: c.bits,
+                have: c.have,
+                next: c.next,
+            },
+            n,
+        );
+    }
+    let v = (c.bits >> 32) >> (32 - n);
+    let bits = c.bits << n;
+    let have = c.have - n;
+    Taken::Value(
+        v as u32,
         Cursor {
             bits,
             have,

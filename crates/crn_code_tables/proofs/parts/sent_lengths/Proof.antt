@@ -10,6 +10,7 @@ use Rattle.crn_format.specs.Reading.{run, fromBits, spot}
 use Rattle.crn_format.specs.Tables.{lengthOrder, sentLengths}
 use Rattle.crn_symbol_codec.specs.Cursors.{place, Holds}
 use Rattle.crn_symbol_codec.specs.declared.Cursor.{Cursor}
+use Rattle.crn_symbol_codec.proofs.Taking.{takes-at}
 use Rattle.crn_symbol_codec.proofs.Serving.{taken-holds, number-small}
 use Rattle.crn_code_tables.proofs.Telling.{said-got, said-refused}
 use Rattle.crn_code_tables.proofs.Sending.{sent-more, sent-failed, sent-done}
@@ -33,6 +34,9 @@ abbrev μ-loop : tie.MeasureT-loop
 loop-holds : tie.Need-loop-holds Inv-loop μ-loop
 loop-holds c = record { long = refl; holds = search needs; within = search needs; same = λ b. rw sub-zero }
 
+ready-requires : tie.Need-ready-requires Inv-loop μ-loop
+ready-requires c κs = search needs
+
 number-requires : tie.Need-number-requires Inv-loop μ-loop
 number-requires c κs = search needs
 
@@ -44,8 +48,8 @@ enum-told c = search needs
 
 returns : tie.Need-returns Inv-loop μ-loop
 returns c =
-    let a = c .before .before .before .before .loop in
-    let t = c .before .before .number .ensures in
+    let a = c .before .before .before .before .before .loop in
+    let t = takes-at {d = a .at} (c .before .before .before .ready .ensures .1) (c .before .before .number .ensures) in
     let e = c .enum-told .given .1 in
     record {
       long = a .inv .long;
@@ -70,8 +74,8 @@ loop-less c = search needs
 
 loop-again : tie.Need-loop-again Inv-loop μ-loop
 loop-again c =
-    let a = c .before .before .before .before .before .before .loop in
-    let t = c .before .before .before .before .number .ensures in
+    let a = c .before .before .before .before .before .before .before .loop in
+    let t = takes-at {d = a .at} (c .before .before .before .before .before .ready .ensures .1) (c .before .before .before .before .number .ensures) in
     let e = c .before .before .l .given .1 in
     record {
       long = simp length-set (a .inv .long);
@@ -96,6 +100,7 @@ sent-lengths-spec =
     Inv-loop
     μ-loop
     loop-holds
+    ready-requires
     number-requires
     enum-known-l
     enum-told
