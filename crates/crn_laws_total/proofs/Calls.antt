@@ -1,4 +1,4 @@
--- The same of the functions: whatever `open` and `unpack_level` answer and leave, by their own contracts.
+-- The same of the functions: whatever `open` and `unpack_level` answer and leave, by their own contracts, and those that have the record by its parts.
 use Prim.Native.Nat.{ℕ}
 use mathlib.Core.Bool.{true, false≢true}
 use mathlib.Core.Logic.{inl, inr}
@@ -9,13 +9,16 @@ use Rattle.crn_format.specs.Opening.{Palettes, Opening, opened, shut, opening}
 use Rattle.crn_format.specs.Unpacking.{Unpacking, unpacking}
 use Rattle.crn_format.specs.declared.Record.{Record}
 use Rattle.crn_formats.specs.Lent.{lentOf}
+use Rattle.crn_formats.specs.Records.{recordBy}
 use Rattle.crn_opening.proofs.«open».Reads as open-call
-use Rattle.crn_opening.specs.Opens.{toOpened, buffersOf, Opens}
+use Rattle.crn_opening.proofs.open_into.Reads as open-into
+use Rattle.crn_opening.specs.Opens.{openedBy, toOpened, buffersOf, Opens}
 use Rattle.crn_opening.specs.declared.opening.Opened.{Opened}
 use Rattle.crn_level.specs.Unpacks.{answerOf, Unpacks}
 use Rattle.crn_level.specs.declared.Unpacked.{Unpacked}
 use Rattle.crn_level.specs.declared.Unpacked.the-variants.{Blocks, Refused}
 use Rattle.crn_level.proofs.unpack_level.Reads as unpack-level
+use Rattle.crn_level.proofs.unpack_level_by.Reads as unpack-level-by
 use Rattle.crn_laws_total.specs.Refusals.{among, openingRefusals}
 use Rattle.crn_laws_total.specs.Ends.{Says, OpeningEnds, OpenEnds, LevelEnds, UnpackEnds}
 use Rattle.crn_laws_total.proofs.Opening.{opening-ends}
@@ -40,6 +43,11 @@ pub open-ends : Says open-call.Post
     OpenEnds (lentOf (now ce) (now cs) (now ae) (now al)) (lentOf (now ce₁) (now cs₁) (now ae₁) (now al₁)) r)
 open-ends _ (file, _) _ _ p = opens-end _ (now file) p
 
+pub open-into-ends : Says open-into.Post
+    (λ (file, (ce, (cs, (ae, (al, _))))) r (_, (ce₁, (cs₁, (ae₁, (al₁, (t₁, (t₂, (t₃, (t₄, (t₅, _)))))))))).
+    OpenEnds (lentOf (now ce) (now cs) (now ae) (now al)) (lentOf (now ce₁) (now cs₁) (now ae₁) (now al₁)) (openedBy r (now t₁) (now t₂) (now t₃) (now t₄) (now t₅)))
+open-into-ends _ (file, _) _ _ p = opens-end _ (now file) p
+
 module _ (r : Record) (file : List ℕ) (p : Palettes) (n pitch distance budget : ℕ) (dst : List ℕ) where
   by-answer : (a : Unpacked) (after : List ℕ) → LevelEnds r file p n pitch distance budget dst (answerOf a after)
       → UnpackEnds r file p n pitch distance budget dst after a
@@ -58,3 +66,9 @@ pub unpack-ends : Says unpack-level.Post
     UnpackEnds r (now file) (lentOf (now ce) (now cs) (now ae) (now al)) n pitch distance (now budget) (now dst) (now dst₁) a)
 unpack-ends _ (r, (file, (ce, (cs, (ae, (al, (n, (pitch, (distance, (budget, (dst, _))))))))))) _ _ p =
     unpacks-end r (now file) (lentOf (now ce) (now cs) (now ae) (now al)) n pitch distance (now budget) (now dst) p
+
+pub unpack-by-ends : Says unpack-level-by.Post
+    (λ (h, (c, (t₁, (t₂, (t₃, (t₄, (t₅, (file, (ce, (cs, (ae, (al, (n, (pitch, (distance, (budget, (dst, _))))))))))))))))) a (_, (_, (_, (_, (_, (_, (_, (_, (_, (_, (_, (_, (_, (_, (_, (_, (dst₁, _))))))))))))))))).
+    UnpackEnds (recordBy h c (now t₁) (now t₂) (now t₃) (now t₄) (now t₅)) (now file) (lentOf (now ce) (now cs) (now ae) (now al)) n pitch distance (now budget) (now dst) (now dst₁) a)
+unpack-by-ends _ (h, (c, (t₁, (t₂, (t₃, (t₄, (t₅, (file, (ce, (cs, (ae, (al, (n, (pitch, (distance, (budget, (dst, _))))))))))))))))) _ _ p =
+    unpacks-end (recordBy h c (now t₁) (now t₂) (now t₃) (now t₄) (now t₅)) (now file) (lentOf (now ce) (now cs) (now ae) (now al)) n pitch distance (now budget) (now dst) p

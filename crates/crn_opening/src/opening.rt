@@ -21,7 +21,6 @@ ghost use Rattle.crn_opening.specs.Loading.{Passed};
 ghost use Rattle.crn_opening.specs.Opens.{refusedHeader, openedBy, Opens};
 
 // Refusal 0 with the opened file; else the refusal, the bit that it names (0 before the streams), and the empty record.
-#[repr(C)]
 pub struct Opened {
     pub refusal: u32,
     pub at: usize,
