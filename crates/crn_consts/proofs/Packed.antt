@@ -15,7 +15,7 @@ abbrev pub upTo : (ℕ → Bool) → ℕ → Bool
 upTo f zero = true
 upTo f (suc n) = both (upTo f n) (f n)
 
-each-up-to : (f : ℕ → Bool) (n i : ℕ) → T (upTo f n) → i < n → T (f i)
+pub each-up-to : (f : ℕ → Bool) (n i : ℕ) → T (upTo f n) → i < n → T (f i)
 each-up-to f zero i t h = absurd (omega arith)
 each-up-to f (suc n) i t h = go (ℕ-discrete i n) (λ l. each-up-to f n i (both-left (upTo f n) (f n) t) l)
   where
@@ -27,9 +27,9 @@ each-up-to f (suc n) i t h = go (ℕ-discrete i n) (λ l. each-up-to f n i (both
 abbrev pub digit : ℕ → ℕ → ℕ → ℕ
 digit b n i = n / 2 ^ (b * i) % 2 ^ b
 
-module _ (b n : ℕ) (table : List ℕ) (i : ℕ) where
-  pub packed : T (upTo (λ k. eqb (digit b n k) (getD table k 0)) (length table)) → i < length table → digit b n i ≡ getD table i 0
-  packed t h = eqb→eq (digit b n i) (getD table i 0) (each-up-to (λ k. eqb (digit b n k) (getD table k 0)) (length table) i t h)
+-- a function that passes the test at each number of the table is the table
+pub computed : (f : ℕ → ℕ) (table : List ℕ) (i : ℕ) → T (upTo (λ k. eqb (f k) (getD table k 0)) (length table)) → i < length table → f i ≡ getD table i 0
+computed f table i t h = eqb→eq (f i) (getD table i 0) (each-up-to (λ k. eqb (f k) (getD table k 0)) (length table) i t h)
 
 pub past-end : (table : List ℕ) (i : ℕ) → length table ≤ i → 0 ≡ getD table i 0
 past-end table i h = sym (List·getD-eq-default table 0 {n = i} h)

@@ -1,11 +1,12 @@
-// The constant tables of a CRN file (document 01, Codes, Palettes and Chunks), each read by a function that gives 0 past its end.
+// The constant tables of a CRN file (document 01, Codes, Palettes and Chunks), each read by a function.
 ghost use mathlib.Core.Path.{_≡_};
 ghost use Prim.Native.Nat.{_<_, _≤_};
 ghost use lib.ListN.{getD};
-ghost use Rattle.crn_format.specs.Level.{tileCounts, tileAt};
+ghost use Rattle.crn_format.specs.Level.{tileCounts};
 ghost use Rattle.crn_format.specs.Palettes.{colorFromLinear, alphaFromLinear};
 ghost use Rattle.crn_format.specs.Tables.{lengthOrder};
 ghost use Rattle.crn_consts.specs.Entries.{Entry, Pair};
+ghost use Rattle.crn_consts.specs.Tiles.{Tiles};
 ghost use Rattle.crn_consts.specs.AlphaDeltas.{AlphaDeltas, AllDeltas};
 
 mod tables;
@@ -37,15 +38,12 @@ pub fn tile_count(encoding: u32) -> u32
     0
 }
 
-// The tile at a position of a chunk: 0 left-top, 1 right-top, 2 left-bottom, 3 right-bottom.
-pub fn tile(encoding: u32, position: u32) -> u32
-    ensures { λ r. ⌜ (r ≡ tileAt encoding position) × (r < 4) ⌝ }
+// The tiles at the positions of a chunk, left-top, right-top, left-bottom, right-bottom: two bits each, the first lowest.
+pub fn tiles(encoding: u32) -> u32
+    requires { ⌜ encoding < 8 ⌝ }
+    ensures { λ r. ⌜ Tiles encoding r ⌝ }
 {
-    let at = 4 * encoding as usize + position as usize;
-    if at < 32 {
-        return ((tables::CHUNK_ENCODING_TILES >> (2 * at)) % 4) as u32;
-    }
-    0
+    ((tables::CHUNK_ENCODING_TILES >> (8 * encoding)) % 256) as u32
 }
 
 // How a block writes a colour selector's value.

@@ -1,4 +1,7 @@
 -- Functions whose contract names the value of their answer, or of what they leave in the lent slice.
+use Prim.Native.Nat.{ℕ, _<_}
+use mathlib.Core.Path.{_≡_}
+use native.Mathlib.Omega.{arith}
 use denote.Ref.{now}
 use Rattle.crn_utils.proofs.limit.Reads as limit
 use Rattle.crn_utils.proofs.byte.Reads as byte
@@ -8,7 +11,8 @@ use Rattle.crn_utils.proofs.big32.Reads as big32
 use Rattle.crn_utils.proofs.little32.Reads as little32
 use Rattle.crn_utils.proofs.little64.Reads as little64
 use Rattle.crn_consts.proofs.tile_count.Reads as tile-count
-use Rattle.crn_consts.proofs.tile.Reads as tile
+use Rattle.crn_consts.specs.Tiles.{tileIn}
+use Rattle.crn_consts.proofs.tiles.Reads as tiles
 use Rattle.crn_consts.proofs.color_from_linear.Reads as color-from-linear
 use Rattle.crn_consts.proofs.alpha_from_linear.Reads as alpha-from-linear
 use Rattle.crn_consts.proofs.length_symbol.Reads as length-symbol
@@ -76,8 +80,12 @@ little64-settled _ _ _ _ _ _ _ p q = alike p q
 pub tile-count-settled : Settled tile-count.Post theAnswer
 tile-count-settled _ _ _ _ _ _ _ p q = alike (p .0) (q .0)
 
-pub tile-settled : Settled tile.Post theAnswer
-tile-settled _ _ _ _ _ _ _ p q = alike (p .0) (q .0)
+pub tiles-settled : Settled tiles.Post theAnswer
+tiles-settled _ _ _ r s _ _ p q =
+    omega (arith, digit 0 (omega arith), digit 1 (omega arith), digit 2 (omega arith), digit 3 (omega arith), p .small, q .small)
+  where
+    digit : (k : ℕ) → k < 4 → tileIn r k ≡ tileIn s k
+    digit k four = alike (p .each k four) (q .each k four)
 
 pub color-from-linear-settled : Settled color-from-linear.Post theAnswer
 color-from-linear-settled _ _ _ _ _ _ _ p q = alike (p .0) (q .0)

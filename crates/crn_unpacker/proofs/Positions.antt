@@ -5,65 +5,48 @@ use mathlib.Core.Bool.{Bool, true, false, false≢true, _&&_, _||_}
 use mathlib.Core.Logic.{_⊎_, inl, inr, ⊎-elim}
 use mathlib.Core.List.{List, [], _∷_, _++_, append-nil}
 use native.Mathlib.Omega.{arith}
-use native.Mathlib.Decide.{ℕ-discrete}
-use native.Mathlib.Nat.{not-suc-le-zero, add-mul}
+use native.Mathlib.Nat.{add-mul}
 use borrow.Author.Tests.{ltb-true, ltb-false, eqb-true, eqb-false}
 use lib.Dec.{T, ltb, ltb→lt, eqb}
 use lib.ListN.{length, getD, take, drop}
 use lib.Seq.{getD-take, getD-drop}
-use Rattle.crn_format.specs.Choice.{pick, both}
+use Rattle.crn_format.specs.Choice.{pick}
 use Rattle.crn_format.specs.Level.{tileCounts, tileMap, tileAt}
 use Rattle.crn_format.specs.Grid.{Shade, half, halves, little, nthList, blockOf, placeOf}
 use Rattle.crn_format.specs.Opening.{Palettes}
 use Rattle.crn_format.specs.declared.Grid.{Grid}
+use Rattle.crn_consts.specs.Tiles.{tileIn, Tiles}
+use Rattle.crn_consts.proofs.Packed.{upTo, each-up-to}
 use Rattle.crn_chunks.specs.Meaning.{row, chunkOf}
 use Rattle.crn_chunks.specs.Reads.{insideOf}
 use Rattle.crn_chunks.specs.declared.Planes.{Planes}
 use Rattle.crn_blocks.specs.Sheet.{In, Covered}
 use Rattle.crn_blocks.specs.Halves.{Half}
 use Rattle.crn_unpacker.specs.Going.{shadeOf}
-use Rattle.crn_unpacker.specs.Blocks.{blockIn}
+use Rattle.crn_unpacker.specs.Blocks.{blockWith, blockIn}
 use Rattle.crn_unpacker.proofs.Shapes.{Shaped, none, more, block-long}
-
--- ---- a test at each number below n, which the checker computes
-
-unfoldable every : (ℕ → Bool) → ℕ → Bool
-every f zero = true
-every f (suc n) = both (f n) (every f n)
-
-each : (f : ℕ → Bool) (n i : ℕ) → T (every f n) → i < n → T (f i)
-unfolding every
-each f zero i t h = absurd (not-suc-le-zero h)
-each f (suc n) i t h = go (each f n i) (f n) refl t (ℕ-discrete i n)
-  where
-    go : (T (every f n) → i < n → T (f i)) → (b : Bool) → f n ≡ b → T (both b (every f n)) → Dec (i ≡ n) → T (f i)
-    go before true is t (yes e) = rw (e, is) tt
-    go before true is t (no e) = before t (omega arith)
-    go before false is t d = absurd t
 
 -- the tile at a position is one of the encoding's
 abbrev known : ℕ → Bool
 known i = ltb (getD tileMap i 0) (getD tileCounts (i / 4) 0)
 
-all-known : T (every known 32)
-unfolding every tileMap tileCounts
+all-known : T (upTo known 32)
+unfolding tileMap tileCounts
 all-known = tt
 
 pub tile-below : (e q : ℕ) → e < 8 → q < 4 → tileAt e q < getD tileCounts e 0
 tile-below e q he hq =
     let is : (4 * e + q) / 4 ≡ e = omega arith in
-    rw is at (ltb→lt (tileAt e q) (getD tileCounts ((4 * e + q) / 4) 0) (each known 32 (4 * e + q) all-known (omega arith)))
+    rw is at (ltb→lt (tileAt e q) (getD tileCounts ((4 * e + q) / 4) 0) (each-up-to known 32 (4 * e + q) all-known (omega arith)))
 
 -- ---- one plane or two
 
-joined : (two : Bool) (a b : Shade) (xs ys : List ℕ) (tile s₀ s₁ lo hi : ℕ) → little 8 lo ≡ half a (getD xs tile 0) s₀
-    → (two ≡ true → little 8 hi ≡ half b (getD ys tile 0) s₁)
-    → little 8 lo ++ pick two (little 8 hi) [] ≡ halves (row two a b) (row two xs ys) (row two s₀ s₁) tile
+joined : (two : Bool) (a b : Shade) (xs ys : List ℕ) (tile s₀ s₁ e₀ e₁ : ℕ) → e₀ ≡ getD xs tile 0 → e₁ ≡ getD ys tile 0
+    → half a e₀ s₀ ++ pick two (half b e₁ s₁) [] ≡ halves (row two a b) (row two xs ys) (row two s₀ s₁) tile
 unfolding halves
-joined true a b xs ys tile s₀ s₁ lo hi first second =
-    ap (λ (l : List ℕ). l ++ little 8 hi) first
-    ∙ ap (λ (l : List ℕ). half a (getD xs tile 0) s₀ ++ l) (second refl ∙ sym (append-nil (half b (getD ys tile 0) s₁)))
-joined false a b xs ys tile s₀ s₁ lo hi first second = ap (λ (l : List ℕ). l ++ []) first
+joined true a b xs ys tile s₀ s₁ e₀ e₁ is₀ is₁ =
+    rw (is₀, is₁) (ap (λ (l : List ℕ). half a (getD xs tile 0) s₀ ++ l) (sym (append-nil (half b (getD ys tile 0) s₁))))
+joined false a b xs ys tile s₀ s₁ e₀ e₁ is₀ is₁ = rw is₀
 
 -- the indices at a position
 nth : (two : Bool) (out : List ℕ) (q : ℕ) → q < 4
@@ -79,35 +62,34 @@ nth two out (suc (suc zero)) h = refl
 nth two out (suc (suc (suc zero))) h = refl
 nth two out (suc (suc (suc (suc q)))) h = absurd (omega arith)
 
-block-bytes : (p : Palettes) (ps : Planes) (e : ℕ) (out : List ℕ) (q tile lo hi : ℕ) → e < 8 → q < 4 → tile ≡ tileAt e q
-    → Half (shadeOf p (ps .first)) (getD out tile 0) (getD out (8 + q) 0) lo
-    → (ps .two ≡ true → Half (shadeOf p (ps .second)) (getD out (4 + tile) 0) (getD out (12 + q) 0) hi)
-    → little 8 lo ++ pick (ps .two) (little 8 hi) [] ≡ blockIn p ps e out q
+by-tile : (p : Palettes) (ps : Planes) (e : ℕ) (out : List ℕ) (q : ℕ) → e < 8 → q < 4 → blockWith p ps out (tileAt e q) q ≡ blockIn p ps e out q
 unfolding blockIn blockOf chunkOf
-block-bytes p ps e out q tile lo hi he hq at first second =
+by-tile p ps e out q he hq =
     let is : q % 4 ≡ q = omega arith in
-    rw (is, nth (ps .two) out q hq, ← at)
-    (joined (ps .two) (shadeOf p (ps .first)) (shadeOf p (ps .second)) (take n out) (take n (drop 4 out)) tile (getD out (8 + q) 0)
-    (getD out (12 + q) 0) lo hi
-    (rw (getD-take n out tile 0 below) first)
-    (λ two. rw (getD-take n (drop 4 out) tile 0 below, getD-drop 4 out tile 0) (second two)))
+    rw (is, nth (ps .two) out q hq)
+    (joined (ps .two) (shadeOf p (ps .first)) (shadeOf p (ps .second)) (take n out) (take n (drop 4 out)) (tileAt e q) (getD out (8 + q) 0) (getD out (12 + q) 0)
+    (getD out (tileAt e q) 0) (getD out (4 + tileAt e q) 0) (sym (getD-take n out (tileAt e q) 0 below))
+    (sym (getD-take n (drop 4 out) (tileAt e q) 0 below ∙ getD-drop 4 out (tileAt e q) 0)))
   where
     n : ℕ
     n = getD tileCounts e 0
 
-    below : tile < n
-    below = rw at (tile-below e q he hq)
+    below : tileAt e q < n
+    below = tile-below e q he hq
 
-module _ (p : Palettes) (ps : Planes) (e : ℕ) (out : List ℕ) (q tile : ℕ) (he : e < 8) (hq : q < 4) (at : tile ≡ tileAt e q) where
-  pub of-one : (lo : ℕ) → ps .two ≡ false → Half (shadeOf p (ps .first)) (getD out tile 0) (getD out (8 + q) 0) lo → little 8 lo ≡ blockIn p ps e out q
-  of-one lo single first =
-      sym (append-nil (little 8 lo)) ∙ sym (ap (λ (b : Bool). little 8 lo ++ pick b (little 8 0) []) single)
-      ∙ block-bytes p ps e out q tile lo 0 he hq at first (λ two. absurd (false≢true (sym single ∙ two)))
+-- the tile is the one that the byte has
+pub by-byte : (p : Palettes) (ps : Planes) (e : ℕ) (out : List ℕ) (byte q : ℕ) → e < 8 → q < 4 → Tiles e byte → blockWith p ps out (tileIn byte q) q ≡ blockIn p ps e out q
+by-byte p ps e out byte q he hq tiles = ap (λ (tile : ℕ). blockWith p ps out tile q) (tiles .each q hq) ∙ by-tile p ps e out q he hq
 
-  pub of-two : (lo hi : ℕ) → ps .two ≡ true → Half (shadeOf p (ps .first)) (getD out tile 0) (getD out (8 + q) 0) lo
-      → Half (shadeOf p (ps .second)) (getD out (4 + tile) 0) (getD out (12 + q) 0) hi → little 8 lo ++ little 8 hi ≡ blockIn p ps e out q
-  of-two lo hi double first second =
-      sym (ap (λ (b : Bool). little 8 lo ++ pick b (little 8 hi) []) double) ∙ block-bytes p ps e out q tile lo hi he hq at first (λ _. second)
+-- its halves, as they are put
+module _ (p : Palettes) (ps : Planes) (out : List ℕ) (tile q lo : ℕ) (first : Half (shadeOf p (ps .first)) (getD out tile 0) (getD out (8 + q) 0) lo) where
+  pub of-one : ps .two ≡ false → little 8 lo ≡ blockWith p ps out tile q
+  of-one single = rw single (first ∙ sym (append-nil (half (shadeOf p (ps .first)) (getD out tile 0) (getD out (8 + q) 0))))
+
+  pub of-two : (hi : ℕ) → ps .two ≡ true → Half (shadeOf p (ps .second)) (getD out (4 + tile) 0) (getD out (12 + q) 0) hi → little 8 lo ++ little 8 hi ≡ blockWith p ps out tile q
+  of-two hi double second =
+      rw double
+      (ap (λ (l : List ℕ). l ++ little 8 hi) first ∙ ap (λ (l : List ℕ). half (shadeOf p (ps .first)) (getD out tile 0) (getD out (8 + q) 0) ++ l) second)
 
 -- the turn counts by its position alone
 pub same-block : (p : Palettes) (ps : Planes) (e : ℕ) (out : List ℕ) (n q : ℕ) → blockIn p ps e out q ≡ blockIn p ps e out (4 * n + q)

@@ -2,11 +2,11 @@
 use Prim.Native.Nat.{ℕ, _+_, _%_, _<_}
 use mathlib.Core.Path.{_≡_}
 use mathlib.Core.Bool.{Bool, true}
-use mathlib.Core.List.{List}
+use mathlib.Core.List.{List, [], _++_}
 use lib.ListN.{getD}
 use Rattle.crn_format.specs.Choice.{pick}
 use Rattle.crn_format.specs.Level.{tileAt}
-use Rattle.crn_format.specs.Grid.{blockOf}
+use Rattle.crn_format.specs.Grid.{half, blockOf}
 use Rattle.crn_format.specs.Opening.{Palettes}
 use Rattle.crn_format.specs.declared.Grid.{Grid}
 use Rattle.crn_chunks.specs.Meaning.{row, chunkOf}
@@ -18,6 +18,12 @@ use Rattle.crn_unpacker.specs.Going.{shadeOf}
 
 abbrev pub held : List ℕ → List ℕ → List ℕ → List ℕ → Palettes
 held ends sels alphaEnds alphaSels = record { colorEnds = ends; colorSels = sels; alphaEnds = alphaEnds; alphaSels = alphaSels }
+
+-- at position q, whose tile is given
+abbrev pub blockWith : Palettes → Planes → List ℕ → ℕ → ℕ → List ℕ
+blockWith p ps out tile q =
+    half (shadeOf p (ps .first)) (getD out tile 0) (getD out (8 + q) 0)
+    ++ pick (ps .two) (half (shadeOf p (ps .second)) (getD out (4 + tile) 0) (getD out (12 + q) 0)) []
 
 -- of the chunk's encoding and indices; the position is that of turn t
 unfoldable pub blockIn : Palettes → Planes → ℕ → List ℕ → ℕ → List ℕ

@@ -5,11 +5,11 @@ ghost use lib.ListN.{length};
 ghost use lib.Seq.{sets};
 ghost use lib.Dec.{ltb};
 ghost use Rattle.crn_format.specs.Choice.{pick};
-ghost use Rattle.crn_format.specs.Level.{tileAt};
+ghost use Rattle.crn_consts.specs.Tiles.{tileIn};
 ghost use Rattle.crn_blocks.specs.Sheet.{Covered, Painted, chunkNumber};
 ghost use Rattle.crn_blocks.specs.Halves.{Half, Has};
 ghost use Rattle.crn_unpacker.specs.Going.{shadeOf};
-ghost use Rattle.crn_unpacker.specs.Blocks.{held, blockIn, Placeable, Filled, AllFilled};
+ghost use Rattle.crn_unpacker.specs.Blocks.{held, blockWith, blockIn, Placeable, Filled, AllFilled};
 use crn_blocks::alpha_half;
 use crn_blocks::color_half;
 use crn_blocks::put_eight;
@@ -37,7 +37,7 @@ fn plane_half(
     color_half(cends, csels, e, s)
 }
 
-// The block at a position: 0 left-top, 1 right-top, 2 left-bottom, 3 right-bottom.
+// The block at a position: 0 left-top, 1 right-top, 2 left-bottom, 3 right-bottom. The byte has the positions' tiles.
 fn block(
     dst: &mut [u8],
     out: &[u64; 16],
@@ -46,14 +46,14 @@ fn block(
     aends: &[u16],
     asels: &[u16],
     ps: Planes,
-    e: u32,
+    tiles: usize,
     at: usize,
     q: usize,
 )
-    requires { ⌜ e < 8 ⌝ ∗ ⌜ q < 4 ⌝ ∗ ⌜ at + pick (ps .two) 16 8 ≤ length (now dst) ⌝ ∗ ⌜ Filled (held (now cends) (now csels) (now aends) (now asels)) ps (now out) (tileAt e q) q ⌝ }
-    ensures { λ _. ⌜ now (dst .exit) ≡ sets (now (dst .entry)) at (blockIn (held (now (cends .entry)) (now (csels .entry)) (now (aends .entry)) (now (asels .entry))) ps e (now (out .entry)) q) ⌝ }
+    requires { ⌜ q < 4 ⌝ ∗ ⌜ at + pick (ps .two) 16 8 ≤ length (now dst) ⌝ ∗ ⌜ Filled (held (now cends) (now csels) (now aends) (now asels)) ps (now out) (tileIn tiles q) q ⌝ }
+    ensures { λ _. ⌜ now (dst .exit) ≡ sets (now (dst .entry)) at (blockWith (held (now (cends .entry)) (now (csels .entry)) (now (aends .entry)) (now (asels .entry))) ps (now (out .entry)) (tileIn tiles q) q) ⌝ }
 {
-    let tile = crn_consts::tile(e, q as u32) as usize;
+    let tile = (tiles >> (2 * q)) % 4;
     let first = ps.first;
     let lo = plane_half(cends, csels, aends, asels, first, out[tile], out[8 + q]);
     put_eight(dst, at, lo);
@@ -93,12 +93,13 @@ pub fn blocks(
     requires { ⌜ Placeable ps g e (length (now dst)) ⌝ ∗ ⌜ Covered g face cx cy ⌝ ∗ ⌜ (right ≡ ltb (2 * cx + 1) (g .columns)) × (bottom ≡ ltb (2 * cy + 1) (g .rows)) ⌝ ∗ ⌜ AllFilled (held (now cends) (now csels) (now aends) (now asels)) ps e (now out) right bottom ⌝ }
     ensures { λ _. ⌜ Painted g (blockIn (held (now (cends .entry)) (now (csels .entry)) (now (aends .entry)) (now (asels .entry))) ps e (now (out .entry))) (4 * chunkNumber g face cx cy) (4 * chunkNumber g face cx cy + 4) (now (dst .entry)) (now (dst .exit)) ⌝ }
 {
+    let tiles = crn_consts::tiles(e) as usize;
     let base = face * g.distance + 2 * cy * g.pitch + 2 * cx * g.bytes;
     let mut q = 0;
     while q < 4 {
         if (right | (q % 2 == 0)) & (bottom | (q < 2)) {
             let at = base + q / 2 * g.pitch + q % 2 * g.bytes;
-            block(dst, out, cends, csels, aends, asels, ps, e, at, q);
+            block(dst, out, cends, csels, aends, asels, ps, tiles, at, q);
         }
         q += 1;
     }

@@ -2,7 +2,7 @@
 use native.Mathlib.Omega.{arith}
 use Rattle.crn_format.specs.Level.{tileCounts}
 use Rattle.crn_consts.proofs.Table.{each-below}
-use Rattle.crn_consts.proofs.Packed.{packed, past-end}
+use Rattle.crn_consts.proofs.Packed.{digit, computed, past-end}
 use borrow.Author.Needs.{needs}
 use Rattle.crn_consts.proofs.tile_count.Statement.{statement}
 use Rattle.crn_consts.proofs.tile_count.Tie as tie
@@ -16,7 +16,7 @@ shr-result c = search needs
 returns : tie.Need-returns
 unfolding tileCounts
 returns c =
-    let e = packed 4 _ tileCounts _ tt (c .if1 .taken) in
+    let e = computed (digit 4 _) tileCounts _ tt (c .if1 .taken) in
     (e, rw e (omega (arith, each-below 5 tileCounts (c .before .args .encoding) tt)))
 
 returns-2 : tie.Need-returns-2
