@@ -47,12 +47,16 @@ planeOf cs p =
 abbrev pub planes : (ℕ → List ℕ) → Planes → List Plane
 planes cs ps = row (ps .two) (planeOf cs (ps .first)) (planeOf cs (ps .second))
 
+-- number k of the parts of a list, each n long
+abbrev pub part : ℕ → List ℕ → ℕ → List ℕ
+part n xs k = take n (drop (k * n) xs)
+
 -- the decoder table of number k
 abbrev pub lookupOf : Planes → List ℕ → ℕ → List ℕ
-lookupOf ps lookup k = take (ps .«lookup_step») (drop (k * ps .«lookup_step») lookup)
+lookupOf ps lookup k = part (ps .«lookup_step») lookup k
 
 abbrev pub sortedOf : Planes → List ℕ → ℕ → List ℕ
-sortedOf ps sorted k = take (ps .«sorted_step») (drop (k * ps .«sorted_step») sorted)
+sortedOf ps sorted k = part (ps .«sorted_step») sorted k
 
 -- they decode the codes cs
 abbrev pub Coded : (ℕ → List ℕ) → Planes → List ℕ → List ℕ → Type 0

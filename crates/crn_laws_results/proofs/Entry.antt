@@ -11,9 +11,10 @@ use Rattle.crn_opening.specs.declared.opening.Opened.{Opened}
 use Rattle.crn_opening.specs.Opens.{openedBy}
 use Rattle.crn_opening.proofs.«open».Reads as opening
 use Rattle.crn_opening.proofs.open_into.Reads as open-into
-use Rattle.crn_level.specs.Unpacks.{answerOf, symbolsOf, Unpacks}
-use Rattle.crn_level.specs.declared.Unpacked.{Unpacked}
-use Rattle.crn_level.specs.declared.Unpacked.the-variants.{Blocks, Refused}
+use Rattle.crn_drawing.specs.Unpacks.{answerOf, symbolsOf, Unpacks}
+use Rattle.crn_drawing.specs.declared.Unpacked.{Unpacked}
+use Rattle.crn_drawing.specs.declared.Unpacked.the-variants.{Blocks, Refused}
+use Rattle.crn_drawing.proofs.draw_level.Reads as draw-level
 use Rattle.crn_level.proofs.unpack_level.Reads as unpack-level
 use Rattle.crn_level.proofs.unpack_level_by.Reads as unpack-level-by
 use Rattle.crn_laws_results.specs.Settled.{Settled, alike, alike₂}
@@ -45,6 +46,10 @@ unpacks-settled {left₁ = m} {left₂ = n} {d = d} {e = e} {r = r} {s = s} p q 
     let spent : symbolsOf r ≡ symbolsOf s = ap symbolsOf (same .0) in
     let left : m ≡ n = omega (arith, p .spent, q .spent) in
     λ i. (same .0 i, (left i, same .1 i))
+
+pub draw-level-settled : Settled {X = Unpacked × (ℕ × List ℕ)} draw-level.Post
+    (λ a r (header, (counts, (t₁, (t₂, (t₃, (t₄, (t₅, (seg, (ce, (cs, (ae, (al, (grid, (budget, (dst, _))))))))))))))). (r, (now budget, now dst)))
+draw-level-settled _ _ _ _ _ _ _ p q = unpacks-settled p q
 
 pub unpack-level-settled : Settled {X = Unpacked × (ℕ × List ℕ)} unpack-level.Post
     (λ a r (file, (bytes, (ce, (cs, (ae, (al, (level, (pitch, (distance, (budget, (dst, _))))))))))). (r, (now budget, now dst)))

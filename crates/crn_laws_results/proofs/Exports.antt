@@ -7,7 +7,7 @@ use Rattle.crn_format.specs.Opening.{Palettes}
 use Rattle.crn_formats.specs.Lent.{lentOf}
 use Rattle.crn_opening.specs.declared.opening.Opened.{Opened}
 use Rattle.crn_opening.specs.Opens.{openedBy}
-use Rattle.crn_level.specs.declared.Unpacked.{Unpacked}
+use Rattle.crn_drawing.specs.declared.Unpacked.{Unpacked}
 use Rattle.crunch_abi.specs.declared.level.Answer.{Answer}
 use Rattle.crunch_abi.specs.Answers.{answerOf}
 use Rattle.crunch_abi.proofs.crunch_look.Reads as crunch-look

@@ -1,5 +1,5 @@
 -- Code tables: what is received is fixed but for the bits that the next cursor has at hand, and every draw from a table that was built is.
-use Prim.Native.Nat.{ℕ}
+use Prim.Native.Nat.{ℕ, _<_}
 use mathlib.Core.Bool.{Bool, true, false}
 use mathlib.Core.Path.{_≡_, refl, sym, ap, _∙_}
 use mathlib.Core.List.{List}
@@ -19,6 +19,9 @@ use Rattle.crn_code_tables.specs.declared.Received.{Received}
 use Rattle.crn_code_tables.specs.Receiving.{said, heldBy, Receives}
 use Rattle.crn_code_tables.proofs.receive.Reads as receive
 use Rattle.crn_static_huffman_data_model.proofs.build.Reads as build
+use Rattle.crn_chunks.specs.Meaning.{part}
+use Rattle.crn_decoders.specs.Tables.{CodedTo}
+use Rattle.crn_decoders.specs.declared.decoders.Sizes.{Sizes}
 use Rattle.crn_short_draw.proofs.draw.Reads as draw
 use Rattle.crn_laws_results.specs.Settled.{Settled, alike}
 use Rattle.crn_laws_results.specs.Seen.{receivedSeen}
@@ -62,3 +65,13 @@ module _ (κ₁ κ₂ : Lfts 3) (given d e : RefT (List ℕ) × (ℕ × (RefT (L
   pub build-settled : (κ₃ κ₄ : Lfts 3) (r s : Taken) (f g : RefT (List ℕ) × (RefT (List ℕ) × (RefT (List ℕ) × (Cursor × Unit {0}))))
       → draw.Post κ₃ (d .1 .1 .0, (d .1 .1 .1 .0, (seg, (c, tt)))) r f → draw.Post κ₄ (e .1 .1 .0, (e .1 .1 .1 .0, (seg, (c, tt)))) s g → drew r ≡ drew s
   build-settled _ _ _ _ _ _ x y = takes-settled (x (now (given .0)) p) (y (now (given .0)) q)
+
+-- ---- a level's tables, made twice (`make_tables` ensures `CodedTo`): the same of table number k
+
+module _ {cs : ℕ → List ℕ} {n : ℕ} {z : Sizes} {l₁ l₂ s₁ s₂ : List ℕ} (p : CodedTo cs n z l₁ s₁) (q : CodedTo cs n z l₂ s₂) (k : ℕ) (there : k < n)
+    (x₁ x₂ y₁ y₂ seg : RefT (List ℕ)) (c : Cursor) where
+  pub make-tables-settled : now x₁ ≡ part (z .«lookup_step») l₁ k → now y₁ ≡ part (z .«sorted_step») s₁ k
+      → now x₂ ≡ part (z .«lookup_step») l₂ k → now y₂ ≡ part (z .«sorted_step») s₂ k
+      → (κ₁ κ₂ : Lfts 3) (r s : Taken) (f g : RefT (List ℕ) × (RefT (List ℕ) × (RefT (List ℕ) × (Cursor × Unit {0}))))
+      → draw.Post κ₁ (x₁, (y₁, (seg, (c, tt)))) r f → draw.Post κ₂ (x₂, (y₂, (seg, (c, tt)))) s g → drew r ≡ drew s
+  make-tables-settled a₁ b₁ a₂ b₂ _ _ _ _ _ _ u v = takes-settled (u (cs k) (rw (a₁, b₁) (p .each k there))) (v (cs k) (rw (a₂, b₂) (q .each k there)))

@@ -47,6 +47,8 @@ use Rattle.crn_palettes.proofs.clear16.Reads as clear16
 use Rattle.crn_blocks.proofs.put_eight.Reads as put-eight
 use Rattle.crn_blocks.proofs.clear.Reads as clear
 use Rattle.crn_blocks.proofs.cutouts.Reads as cutouts
+use Rattle.crn_decoders.proofs.tables_hold.Reads as tables-hold
+use Rattle.crn_decoders.proofs.planes_of.Reads as planes-of
 use Rattle.crn_edits.proofs.edited.Reads as edited
 use Rattle.fnv.proofs.step.Reads as step
 use Rattle.draw_bench.proofs.sum_of_draws.Reads as sum-of-draws
@@ -198,6 +200,14 @@ clear-settled _ _ _ _ _ _ _ p q = alike p q
 
 pub cutouts-settled : Settled cutouts.Post theAnswer
 cutouts-settled _ _ _ _ _ _ _ p q = alike p q
+
+-- ---- crn_decoders: those that make no table
+
+pub tables-hold-settled : Settled tables-hold.Post theAnswer
+tables-hold-settled _ _ _ _ _ _ _ p q = alike p q
+
+pub planes-of-settled : Settled planes-of.Post theAnswer
+planes-of-settled _ _ _ _ _ _ _ p q = alike p q
 
 -- ---- crn_edits, fnv, draw_bench
 

@@ -14,9 +14,9 @@ use Rattle.crn_opening.proofs.«open».Reads as open-call
 use Rattle.crn_opening.proofs.open_into.Reads as open-into
 use Rattle.crn_opening.specs.Opens.{openedBy, toOpened, buffersOf, Opens}
 use Rattle.crn_opening.specs.declared.opening.Opened.{Opened}
-use Rattle.crn_level.specs.Unpacks.{answerOf, Unpacks}
-use Rattle.crn_level.specs.declared.Unpacked.{Unpacked}
-use Rattle.crn_level.specs.declared.Unpacked.the-variants.{Blocks, Refused}
+use Rattle.crn_drawing.specs.Unpacks.{answerOf, Unpacks}
+use Rattle.crn_drawing.specs.declared.Unpacked.{Unpacked}
+use Rattle.crn_drawing.specs.declared.Unpacked.the-variants.{Blocks, Refused}
 use Rattle.crn_level.proofs.unpack_level.Reads as unpack-level
 use Rattle.crn_level.proofs.unpack_level_by.Reads as unpack-level-by
 use Rattle.crn_laws_total.specs.Refusals.{among, openingRefusals}

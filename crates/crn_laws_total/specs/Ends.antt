@@ -16,8 +16,8 @@ use Rattle.crn_format.specs.declared.Header.{Header}
 use Rattle.crn_format.specs.declared.Record.{Record}
 use Rattle.crn_format.specs.declared.Grid.{Grid}
 use Rattle.crn_blocks.specs.Sheet.{In}
-use Rattle.crn_level.specs.declared.Unpacked.{Unpacked}
-use Rattle.crn_level.specs.declared.Unpacked.the-variants.{Blocks, Refused}
+use Rattle.crn_drawing.specs.declared.Unpacked.{Unpacked}
+use Rattle.crn_drawing.specs.declared.Unpacked.the-variants.{Blocks, Refused}
 use Rattle.crn_opening.specs.declared.opening.Opened.{Opened}
 use Rattle.crn_laws_total.specs.Refusals.{among, beforeStreams, inStreams, openingRefusals, beforeDraws, inDraws, levelRefusals}
 use Rattle.crn_laws_total.specs.Leaves.{Zeroed, Beyond, Leaves}

@@ -19,10 +19,10 @@ use Rattle.crn_format.specs.declared.Header.{Header}
 use Rattle.crn_format.specs.declared.Record.{Record}
 use Rattle.crn_format.specs.declared.Grid.{Grid}
 use Rattle.crn_blocks.specs.Sheet.{Room}
-use Rattle.crn_level.specs.declared.Unpacked.{Unpacked}
-use Rattle.crn_level.specs.declared.Unpacked.the-variants.{Refused}
-use Rattle.crn_level.specs.Unpacks.{answerOf, Unpacks}
-use Rattle.crn_level.specs.Levels.{Checked}
+use Rattle.crn_drawing.specs.declared.Unpacked.{Unpacked}
+use Rattle.crn_drawing.specs.declared.Unpacked.the-variants.{Refused}
+use Rattle.crn_drawing.specs.Unpacks.{answerOf, Unpacks}
+use Rattle.crn_drawing.specs.Levels.{Checked}
 use Rattle.crn_level.specs.Refusals.{firstFailed, refusalBy}
 use Rattle.crn_format.proofs.Choices.{both-hold}
 use Rattle.crn_formats.proofs.Limited.{Limited, limited}

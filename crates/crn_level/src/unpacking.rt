@@ -1,9 +1,9 @@
 // Unpacking a level: "2, 6, 10, 4, 5, 11, 12, all before the first draw and with the destination untouched, then the stream"
 // (document 01, Refusal numbers).
-use crate::Unpacked;
-use crate::drawing::draw_level;
-use crate::table_checks::tables_hold;
 use crn_bounds::within_limits;
+use crn_decoders::tables_hold;
+use crn_drawing::Unpacked;
+use crn_drawing::draw_level;
 use crn_format::Grid;
 use crn_format::Header;
 use crn_format::Record;
@@ -25,7 +25,7 @@ ghost use Rattle.crn_format.specs.Limits.{tooLong};
 ghost use Rattle.crn_format.specs.Unpacking.{levelStands, levelSegment, gridOf, unpacking as «unpackingOf»};
 ghost use Rattle.crn_formats.specs.Lent.{lentOf};
 ghost use Rattle.crn_formats.specs.Records.{recordBy};
-ghost use Rattle.crn_level.specs.Unpacks.{Unpacks};
+ghost use Rattle.crn_drawing.specs.Unpacks.{Unpacks};
 ghost use Rattle.crn_level.specs.Refusals.{firstFailed, refusalBy};
 
 // The refusal of seven tests, 0 where each holds: the first that fails decides.

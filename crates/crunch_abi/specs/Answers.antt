@@ -3,9 +3,9 @@ use Prim.Native.Nat.{ℕ}
 use mathlib.Core.Path.{_≡_}
 use mathlib.Core.List.{List}
 use Rattle.crn_format.specs.Unpacking.{Unpacking}
-use Rattle.crn_level.specs.Unpacks.{Unpacks}
-use Rattle.crn_level.specs.declared.Unpacked.{Unpacked}
-use Rattle.crn_level.specs.declared.Unpacked.the-variants.{Blocks, Refused}
+use Rattle.crn_drawing.specs.Unpacks.{Unpacks}
+use Rattle.crn_drawing.specs.declared.Unpacked.{Unpacked}
+use Rattle.crn_drawing.specs.declared.Unpacked.the-variants.{Blocks, Refused}
 use Rattle.crunch_abi.specs.declared.level.Answer.{Answer}
 
 abbrev pub answerOf : Unpacked → Answer

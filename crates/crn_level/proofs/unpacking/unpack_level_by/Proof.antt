@@ -2,7 +2,7 @@
 use lib.ListN.{length}
 use Rattle.crn_format.specs.declared.Record.{Record}
 use Rattle.crn_formats.specs.Records.{recordBy}
-use Rattle.crn_level.specs.Tables.{Long}
+use Rattle.crn_decoders.specs.Tables.{Long}
 use Rattle.crn_level.proofs.Checks.{refused-before, stands-so, all-checked, then-level}
 use borrow.Author.Needs.{needs}
 use Rattle.crn_level.proofs.unpacking.unpack_level_by.Statement.{statement}

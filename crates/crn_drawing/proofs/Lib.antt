@@ -1,0 +1,4 @@
+pub mod Formats
+pub mod Reaching
+pub mod Drawn
+pub mod ByRecord
