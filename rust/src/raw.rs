@@ -1,5 +1,5 @@
 //! The archive's functions over plain slices, as [`Crn`](crate::Crn) calls them. They take any argument, allocate nothing and are safe to call; all that is
-//! `unsafe` in this package stands here: a slice is handed over as its pointer and its length.
+//! `unsafe` in this package stands here: a slice is handed over as its pointer and its length, a record by its parts.
 //!
 //! The structs are those of `include/crunch.h`, where each field is told.
 
