@@ -21,6 +21,7 @@ use Rattle.crn_symbol_codec.specs.Decoders.{SomeCode}
 use Rattle.crn_short_draw.proofs.ready.Reads as ready
 use Rattle.crn_short_draw.proofs.draw.Reads as short-draw
 use Rattle.crn_short_draw.proofs.number.Reads as short-number
+use Rattle.crn_palettes.proofs.filled.Reads as filled
 use Rattle.crn_laws_results.specs.Settled.{Settled, SettledIf, alike}
 use Rattle.crn_laws_results.proofs.Steps.{got-tells, refused-tells, got-or-refused}
 
@@ -34,6 +35,9 @@ refill-settled _ _ _ _ _ _ _ p q = alike (p .stays) (q .stays)
 
 pub ready-settled : Settled ready.Post (λ a r e. place r)
 ready-settled _ _ _ _ _ _ _ p q = alike (p .1) (q .1)
+
+pub filled-settled : Settled filled.Post (λ a r e. place r)
+filled-settled _ _ _ _ _ _ _ p q = alike (p .stays) (q .stays)
 
 -- ---- what is taken: `drew` is the value and the place after it, or the refusal
 

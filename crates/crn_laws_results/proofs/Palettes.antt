@@ -1,6 +1,6 @@
 -- The palettes: the answer and the lent buffer are fixed; so is the table of the alpha selectors' deltas.
 use Prim.Native.Nat.{ℕ, zero, suc, _+_, _*_, _/_, _%_}
-use mathlib.Core.Path.{_≡_, refl, ap}
+use mathlib.Core.Path.{_≡_, refl, sym, ap, _∙_}
 use mathlib.Core.List.{List}
 use native.Mathlib.Omega.{arith}
 use lib.ListN.{length, getD}
@@ -9,12 +9,19 @@ use denote.Ref.{now}
 use Rattle.crn_consts.specs.declared.Deltas.{Deltas}
 use Rattle.crn_consts.specs.AlphaDeltas.{AllDeltas, alphaDeltas}
 use Rattle.crn_consts.proofs.alpha_delta_pairs.Reads as alpha-delta-pairs
+use Rattle.crn_format.specs.Reading.{Place}
+use Rattle.crn_palettes.specs.Reaching.{reached}
 use Rattle.crn_palettes.specs.declared.Ended.{Ended}
-use Rattle.crn_palettes.proofs.color_endpoints.Reads as color-endpoints
-use Rattle.crn_palettes.proofs.color_selectors.Reads as color-selectors
-use Rattle.crn_palettes.proofs.alpha_endpoints.Reads as alpha-endpoints
-use Rattle.crn_palettes.proofs.alpha_selectors.Reads as alpha-selectors
+use Rattle.crn_palettes.specs.declared.reading.Reached.{Reached}
+use Rattle.crn_palettes.specs.declared.reading.Reached.the-variants.{To, Refused}
+use Rattle.crn_palettes.proofs.receive_decoder.Reads as receive-decoder
+use Rattle.crn_endpoints.proofs.color_endpoints.Reads as color-endpoints
+use Rattle.crn_selectors.proofs.color_selectors.Reads as color-selectors
+use Rattle.crn_endpoints.proofs.alpha_endpoints.Reads as alpha-endpoints
+use Rattle.crn_selectors.proofs.alpha_selectors.Reads as alpha-selectors
 use Rattle.crn_laws_results.specs.Settled.{Settled, SettledIf, theAnswer, alike, alike₂}
+use Rattle.crn_laws_results.specs.Seen.{reachedSeen}
+use Rattle.crn_laws_results.proofs.Steps.{got-tells, refused-tells, got-or-refused}
 
 pub color-endpoints-settled : Settled {X = Ended × List ℕ} color-endpoints.Post (λ a r (seg, (count, (out, _))). (r, now out))
 color-endpoints-settled _ _ _ _ _ _ _ p q = alike₂ (p .answer) (q .answer) (p .holds) (q .holds)
@@ -27,6 +34,17 @@ alpha-endpoints-settled _ _ _ _ _ _ _ p q = alike₂ (p .answer) (q .answer) (p 
 
 pub alpha-selectors-settled : Settled {X = Ended × List ℕ} alpha-selectors.Post (λ a r (seg, (count, (out, _))). (r, now out))
 alpha-selectors-settled _ _ _ _ _ _ _ p q = alike₂ (p .answer) (q .answer) (p .holds) (q .holds)
+
+-- ---- a palette's code table: how receiving it ends
+
+reached-tells : (us vs : List ℕ) (a b : ℕ) (r s : Reached) → reached us a r ≡ reached vs b s → reachedSeen r ≡ reachedSeen s
+reached-tells us vs a b (To d) (To e) f = ap (λ (w : Place). (0, w .at)) (got-tells f .1)
+reached-tells us vs a b (To d) (Refused n p) f = absurd (got-or-refused f)
+reached-tells us vs a b (Refused n p) (To d) f = absurd (got-or-refused (sym f))
+reached-tells us vs a b (Refused n p) (Refused m q) f = let both = refused-tells f in λ i. (both .0 i, both .1 i .at)
+
+pub receive-decoder-settled : Settled receive-decoder.Post (λ a r e. reachedSeen r)
+receive-decoder-settled _ _ _ r s _ _ p q = reached-tells _ _ _ _ r s (sym (p .reads 0 .same) ∙ q .reads 0 .same)
 
 -- ---- the table of pairs, which has 450 bytes as its type says
 

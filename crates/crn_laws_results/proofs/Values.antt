@@ -42,6 +42,7 @@ use Rattle.crn_symbol_codec.proofs.refusal.Reads as refusal
 use Rattle.crn_symbol_codec.proofs.place.Reads as place
 use Rattle.crn_symbol_codec.proofs.entry.Reads as entry
 use Rattle.crn_static_huffman_data_model.proofs.is_code.Reads as is-code
+use Rattle.crn_palettes.proofs.wide.Reads as wide
 use Rattle.crn_palettes.proofs.clear32.Reads as clear32
 use Rattle.crn_palettes.proofs.clear16.Reads as clear16
 use Rattle.crn_blocks.proofs.put_eight.Reads as put-eight
@@ -184,7 +185,10 @@ entry-settled _ _ _ _ _ _ _ p q = alike p q
 pub is-code-settled : Settled is-code.Post theAnswer
 is-code-settled _ _ _ _ _ _ _ p q = alike p q
 
--- ---- crn_palettes, crn_blocks: lent slices
+-- ---- crn_palettes, crn_blocks: a byte, lent slices
+
+pub wide-settled : Settled wide.Post theAnswer
+wide-settled _ _ _ _ _ _ _ p q = alike (p .0) (q .0)
 
 pub clear32-settled : Settled clear32.Post (λ a r e. now (e .0))
 clear32-settled _ _ _ _ _ _ _ p q = alike p q

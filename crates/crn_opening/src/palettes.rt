@@ -1,12 +1,12 @@
 // The four palettes, each from its segment into its lent buffer. "A plane's palettes are read only where its endpoint count is above 0"
 // (document 01, Codes). After a refusal the buffers are to be cleared.
+use crn_endpoints::alpha_endpoints;
+use crn_endpoints::color_endpoints;
 use crn_format::Header;
 use crn_format::Part;
 use crn_palettes::Ended;
-use crn_palettes::alpha_endpoints;
-use crn_palettes::alpha_selectors;
-use crn_palettes::color_endpoints;
-use crn_palettes::color_selectors;
+use crn_selectors::alpha_selectors;
+use crn_selectors::color_selectors;
 ghost use mathlib.Core.Path.{_≡_};
 ghost use Prim.Native.Nat.{_+_, _≤_};
 ghost use lib.ListN.{length};

@@ -1,7 +1,8 @@
 -- What is left to be run from a cursor, while a whole run goes on.
-use Prim.Native.Nat.{ℕ}
+use Prim.Native.Nat.{ℕ, zero, suc, _<_}
 use mathlib.Core.List.{List}
-use mathlib.Core.Path.{_≡_, sym, ap, subst, _∙_}
+use mathlib.Core.Path.{_≡_, refl, sym, ap, subst, _∙_}
+use native.Mathlib.Omega.{arith}
 use Rattle.crn_format.specs.Reading.{aSymbol, Reading, answer, mark, draw, next, Step, got, refused, Place, spot, run, fromBits}
 use Rattle.crn_format.proofs.Steps.{answered as run-answer, at-mark, go-on, stop}
 use Rattle.crn_symbol_codec.specs.Cursors.{place, Holds}
@@ -10,7 +11,7 @@ use Rattle.crn_symbol_codec.specs.declared.Cursor.{Cursor}
 use Rattle.crn_symbol_codec.specs.declared.Taken.{Taken}
 use Rattle.crn_symbol_codec.specs.declared.Taken.the-variants.{Value, Failed}
 use Rattle.crn_symbol_codec.proofs.Serving.{taken-value, taken-failed}
-use Rattle.crn_palettes.specs.Reaching.{reached, Next, Reaches}
+use Rattle.crn_palettes.specs.Reaching.{endedAt, reached, Next, Reaches}
 use Rattle.crn_palettes.specs.declared.reading.Reached.{Reached}
 use Rattle.crn_palettes.specs.declared.reading.Reached.the-variants.{To, Refused}
 
@@ -52,12 +53,21 @@ module _ {seg : List ℕ} {at : Cursor} {whole : Step Place (List ℕ)} where
     left-stop e = let x = t (l .blamed) in sym (l .same) ∙ stop (fromBits seg) m k _ (x .same ∙ ap (reached vs (x .blamed)) e)
 
 -- ---- how a part of a palette ends
+
+pub ended-some : (n : ℕ) (d : Cursor) → 0 < n → endedAt n d ≡ Refused n (place d)
+ended-some zero d h = absurd (omega arith)
+ended-some (suc n) d h = refl
+
 module _ {seg : List ℕ} {m : Reading (List ℕ)} {c : Cursor} {b : ℕ} where
   pub reaches-to : {vs : List ℕ} {d : Cursor} → Left seg (answer vs) d (run (fromBits seg) m (spot (place c) b)) → Holds seg d → Reaches seg m c b vs (To d)
   reaches-to l h = record { blamed = l .blamed; same = left-answer l; holds = h }
 
   pub reaches-refused : {vs : List ℕ} {n k p q : ℕ} → run (fromBits seg) m (spot (place c) b) ≡ refused n (spot p p) → k ≡ n → q ≡ p → Reaches seg m c b vs (Refused k q)
   reaches-refused {n = n} {q = q} e f g = record { blamed = 0; same = e ∙ sym (ap (λ (p : ℕ). refused n (spot p p)) g) ∙ sym (ap (λ (k : ℕ). refused k (spot q q)) f); holds = tt }
+
+  -- the same by a refusal that is not 0
+  pub reaches-ended : {vs : List ℕ} {n k : ℕ} (d : Cursor) → run (fromBits seg) m (spot (place c) b) ≡ refused n (spot (place d) (place d)) → k ≡ n → 0 < n → Reaches seg m c b vs (endedAt k d)
+  reaches-ended {n = n} d e f h = rw (f, ended-some n d h) (reaches-refused e refl refl)
 
 -- the next cursor holds
 pub next-holds : (holds : Cursor → Type 0) {r : Reached} {d : Cursor} → Next holds r → r ≡ To d → holds d

@@ -3,6 +3,3 @@ pub mod Leaving
 pub mod Entering
 pub mod Zeroing
 pub mod Starting
-pub mod Summing
-pub mod Changing
-pub mod Packing

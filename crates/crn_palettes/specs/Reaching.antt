@@ -1,14 +1,29 @@
 -- What a part of a palette answers: the cursor after it, or the refusal and the bit that it names.
-use Prim.Native.Nat.{ℕ}
+use Prim.Native.Nat.{ℕ, zero, suc}
 use mathlib.Core.Path.{_≡_}
 use mathlib.Core.List.{List}
 use Rattle.crn_format.specs.Reading.{Reading, Step, got, refused, Place, spot, run, fromBits}
 use Rattle.crn_format.specs.Tables.{table}
-use Rattle.crn_symbol_codec.specs.Cursors.{place, Holds}
+use Rattle.crn_symbol_codec.specs.Cursors.{place, Holds, Enough}
 use Rattle.crn_symbol_codec.specs.Decoders.{Decodes}
 use Rattle.crn_symbol_codec.specs.declared.Cursor.{Cursor}
 use Rattle.crn_palettes.specs.declared.reading.Reached.{Reached}
 use Rattle.crn_palettes.specs.declared.reading.Reached.the-variants.{To, Refused}
+
+-- a cursor by its parts
+abbrev pub cursorAt : ℕ → ℕ → ℕ → Cursor
+cursorAt bits have next = record { bits = bits; have = have; next = next }
+
+-- r is c with 16 bits, or all that are left
+pub record Near (seg : List ℕ) (c r : Cursor) : Type 0 where
+  pub holds : Holds seg r
+  pub stays : place r ≡ place c
+  pub enough : Enough seg r 16
+
+-- refusal 0 and the cursor after a part; or the refusal, and the cursor at the bit that it names
+abbrev pub endedAt : ℕ → Cursor → Reached
+endedAt zero d = To d
+endedAt (suc n) d = Refused (suc n) (place d)
 
 -- the answer as a step over the segment's bits, with the list vs, where b is blamed
 abbrev pub reached : List ℕ → ℕ → Reached → Step Place (List ℕ)

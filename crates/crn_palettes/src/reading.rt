@@ -4,10 +4,11 @@ ghost use Prim.Native.Nat.{_+_, _^_, _<_, _≤_};
 ghost use lib.ListN.{length};
 ghost use Rattle.crn_format.specs.Limits.{tooLong, maxSymbols};
 ghost use Rattle.crn_symbol_codec.specs.Cursors.{Holds};
-ghost use Rattle.crn_palettes.specs.Reaching.{Received};
+ghost use Rattle.crn_palettes.specs.Reaching.{Near, Received};
 use crn_code_tables::receive;
 use crn_static_huffman_data_model::build;
 use crn_symbol_codec::Cursor;
+use crn_symbol_codec::refill;
 
 // How many first bits of a code are looked up: 11, as `receive_decoder` requires room for.
 const LOOKED_UP: u64 = 11;
@@ -23,6 +24,17 @@ pub fn wide(x: u8) -> u32
     ensures { λ r. ⌜ (r ≡ x) × (r < 256) ⌝ }
 {
     x as u32
+}
+
+// The cursor with 16 bits, or all that are left.
+pub fn filled(seg: &[u8], c: Cursor) -> Cursor
+    requires { ⌜ Holds (now seg) c ⌝ }
+    ensures { λ r. ⌜ Near (now (seg .entry)) c r ⌝ }
+{
+    if c.have < 16 {
+        return refill(seg, c);
+    }
+    c
 }
 
 // A code table is received, and its decoder table built.
