@@ -1,5 +1,5 @@
 -- Functions whose contract names the value of their answer, or of what they leave in the lent slice.
-use Prim.Native.Nat.{ℕ, _<_}
+use Prim.Native.Nat.{ℕ, _/_, _%_, _<_}
 use mathlib.Core.Path.{_≡_}
 use native.Mathlib.Omega.{arith}
 use denote.Ref.{now}
@@ -83,12 +83,28 @@ little64-settled _ _ _ _ _ _ _ p q = alike p q
 pub tile-count-settled : Settled tile-count.Post theAnswer
 tile-count-settled _ _ _ _ _ _ _ p q = alike (p .0) (q .0)
 
+-- two bits, and what stands above them
+by-two-bits : (r s : ℕ) → r % 4 ≡ s % 4 → r / 4 ≡ s / 4 → r ≡ s
+by-two-bits r s low high = omega arith
+
+-- the bits of a byte, two and two
+first-bits : (r s : ℕ) → r / 1 % 4 ≡ s / 1 % 4 → r % 4 ≡ s % 4
+first-bits r s e = omega arith
+
+third-bits : (r s : ℕ) → r / 16 % 4 ≡ s / 16 % 4 → r / 4 / 4 % 4 ≡ s / 4 / 4 % 4
+third-bits r s e = omega arith
+
+last-bits : (r s : ℕ) → r < 256 → s < 256 → r / 64 % 4 ≡ s / 64 % 4 → r / 4 / 4 / 4 ≡ s / 4 / 4 / 4
+last-bits r s h k e = omega arith
+
 pub tiles-settled : Settled tiles.Post theAnswer
 tiles-settled _ _ _ r s _ _ p q =
-    omega (arith, digit 0 (omega arith), digit 1 (omega arith), digit 2 (omega arith), digit 3 (omega arith), p .small, q .small)
+    by-two-bits r s (first-bits r s (pair 0 (omega arith)))
+    (by-two-bits (r / 4) (s / 4) (pair 1 (omega arith))
+    (by-two-bits (r / 4 / 4) (s / 4 / 4) (third-bits r s (pair 2 (omega arith))) (last-bits r s (p .small) (q .small) (pair 3 (omega arith)))))
   where
-    digit : (k : ℕ) → k < 4 → tileIn r k ≡ tileIn s k
-    digit k four = alike (p .each k four) (q .each k four)
+    pair : (k : ℕ) → k < 4 → tileIn r k ≡ tileIn s k
+    pair k four = alike (p .each k four) (q .each k four)
 
 pub color-from-linear-settled : Settled color-from-linear.Post theAnswer
 color-from-linear-settled _ _ _ _ _ _ _ p q = alike (p .0) (q .0)
