@@ -15,7 +15,7 @@ use Rattle.crn_format.specs.declared.Record.{Record}
 use Rattle.crn_format.specs.declared.Grid.{Grid}
 use Rattle.crn_formats.proofs.ByFormat.{by-format}
 use Rattle.crn_chunks.specs.Meaning.{row, planeOf, planes, Served}
-use Rattle.crn_unpacker.specs.Going.{shadeOf}
+use Rattle.crn_chunk_blocks.specs.Blocks.{shadeOf}
 use Rattle.crn_decoders.specs.declared.decoders.Sizes.{Sizes}
 use Rattle.crn_decoders.specs.Tables.{countsOf, Able, CodedTo, codesBy, tablesIn}
 use Rattle.crn_decoders.specs.Planning.{planesBy}

@@ -13,7 +13,7 @@ use Rattle.crn_format.specs.Unpacking.{palettesReach}
 use Rattle.crn_format.specs.declared.Header.{Header}
 use Rattle.crn_format.proofs.Choices.{both-hold}
 use Rattle.crn_blocks.specs.Halves.{Reach}
-use Rattle.crn_unpacker.specs.Going.{shadeOf, Reaches}
+use Rattle.crn_chunk_blocks.specs.Blocks.{shadeOf, Reaches}
 use Rattle.crn_decoders.specs.declared.decoders.Sizes.{Sizes}
 use Rattle.crn_decoders.specs.Planning.{planesBy}
 

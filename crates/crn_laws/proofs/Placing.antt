@@ -16,7 +16,7 @@ use Rattle.crn_format.specs.declared.Grid.{Grid}
 use Rattle.crn_blocks.specs.Sheet.{In, Covered}
 use Rattle.crn_blocks.proofs.Turns.{parity, chunk-below}
 use Rattle.crn_blocks.proofs.Rows.{inside-of}
-use Rattle.crn_unpacker.proofs.Positions.{tile-below}
+use Rattle.crn_chunk_blocks.proofs.Positions.{tile-below}
 use Rattle.crn_laws.specs.Scripts.{Draws, chunksBy, Fits}
 use Rattle.crn_laws.specs.Blocks.{encodingAt, endpointBy, selectorBy, halvesBy, blockBy}
 use Rattle.crn_laws.proofs.Carrying.{encoding-at, endpoint-at, selector-at, tiles-long, positions-long, true-within}

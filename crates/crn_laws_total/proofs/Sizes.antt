@@ -16,7 +16,8 @@ use Rattle.crn_blocks.specs.Sheet.{In}
 use Rattle.crn_blocks.proofs.Turns.{chunk-below}
 use Rattle.crn_unpacker.specs.States.{stateTo, chunksTo}
 use Rattle.crn_unpacker.proofs.States.{chunks-run, chunk-at}
-use Rattle.crn_unpacker.proofs.Shapes.{Sized, Shaped, chunk-shaped, block-long}
+use Rattle.crn_chunk_blocks.proofs.Shapes.{Shaped, block-long}
+use Rattle.crn_unpacker.proofs.Shapes.{Sized, chunk-shaped}
 
 -- ---- a list with an element for each plane
 

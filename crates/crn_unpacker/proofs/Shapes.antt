@@ -1,34 +1,22 @@
--- A chunk that is read has a list of tiles and four indices for each plane, so that its blocks have eight bytes for each.
-use Prim.Native.Nat.{ℕ, zero, suc, _+_, _*_, _<_}
+-- A chunk that is read has a list of tiles and four indices for each plane.
+use Prim.Native.Nat.{ℕ, zero, suc, _+_, _<_}
 use mathlib.Core.Path.{_≡_, refl, sym, ap, _∙_, subst}
 use mathlib.Core.Bool.{Bool}
 use mathlib.Core.List.{List, [], _∷_, _++_}
 use native.Mathlib.Omega.{arith}
-use native.Mathlib.Nat.{not-suc-le-zero}
-use lib.ListN.{length, getD, length-append}
+use lib.ListN.{length, getD}
 use Rattle.crn_format.specs.Reading.{Reading, answer, next, Step, got, refused, then, Source, run}
-use Rattle.crn_format.specs.Level.{Plane, Running, Chunk, endpointIndices, planeEndpoints, selectorIndex, planeSelectors, positionSelectors, encoding, tileCounts, tileAt, lasts, lastRow, chunk}
-use Rattle.crn_format.specs.Grid.{Shade, color, alpha, half, halves, little, nthList, blockOf}
+use Rattle.crn_format.specs.Level.{Plane, Running, Chunk, endpointIndices, planeEndpoints, selectorIndex, planeSelectors, positionSelectors, encoding, tileCounts, lasts, lastRow, chunk}
 use Rattle.crn_format.proofs.Answers.{All, run-all, all-next, Any, all-any, all-answer}
+use Rattle.crn_chunk_blocks.proofs.Shapes.{Rowed, none, more, Shaped}
 use Rattle.crn_unpacker.specs.States.{stateTo, chunkTo}
 use Rattle.crn_unpacker.proofs.States.{stays, chunk-got}
 
 -- ---- lists for each plane
 
--- n lists of length m
-pub data Rowed (m : ℕ) : ℕ → List (List ℕ) → Type 0 where
-  none : Rowed m 0 []
-  more : {n : ℕ} {r : List ℕ} {rs : List (List ℕ)} → length r ≡ m → Rowed m n rs → Rowed m (suc n) (r ∷ rs)
-
 one-more : {m n : ℕ} {rs : List (List ℕ)} (r : List ℕ) → Rowed m n rs → length r ≡ m → Rowed m (suc n) (rs ++ (r ∷ []))
 one-more r none h = more h none
 one-more r (more g rs) h = more g (one-more r rs h)
-
-nth-long : {m n : ℕ} {rs : List (List ℕ)} → Rowed m n rs → (q : ℕ) → q < n → length (nthList rs q) ≡ m
-unfolding nthList
-nth-long none q h = absurd (not-suc-le-zero h)
-nth-long (more g rs) zero h = g
-nth-long (more g rs) (suc q) h = nth-long rs q (omega arith)
 
 last-long : {m n : ℕ} (is : List ℕ) {rs : List (List ℕ)} → length is ≡ m → Rowed m n rs → length (lastRow is rs) ≡ m
 unfolding lastRow
@@ -83,10 +71,6 @@ positions-long ps (inside ∷ insides) is rows n h r =
 pub record Sized (m : ℕ) (r : Running) : Type 0 where
   pub endpoint : length (r .endpoint) ≡ m
   pub selector : length (r .selector) ≡ m
-
-pub record Shaped (m : ℕ) (c : Chunk) : Type 0 where
-  pub tiles : length (c .tiles) ≡ m
-  pub positions : Rowed m 4 (c .positions)
 
 abbrev Good : ℕ → Chunk × Running → Type 0
 Good m a = Shaped m (a .0) × Sized m (a .1)
@@ -160,25 +144,3 @@ module _ (ls : List ℕ) (ps : List Plane) where
             let z : _≡_ {A = Step S Running} (refused x u) (got q v) = sym (stays src ls ps flags r w (suc k) n h is) ∙ e in
             let y : _≡_ {A = ℕ} 0 1 = cc in
             absurd (omega arith)
-
--- ---- its blocks
-
-half-long : (p : Shade) (e s : ℕ) → length (half p e s) ≡ 8
-unfolding half little
-half-long (color ends sels) e s = refl
-half-long (alpha ends sels) e s = refl
-
-halves-long : (ps : List Shade) (ts : List (List ℕ)) (ss : List ℕ) (tile : ℕ) → length ts ≡ length ps → length ss ≡ length ps
-    → length (halves ps ts ss tile) ≡ 8 * length ps
-unfolding halves
-halves-long [] ts ss tile h g = refl
-halves-long (p ∷ ps) [] ss tile h g = absurd (omega arith)
-halves-long (p ∷ ps) (t ∷ ts) [] tile h g = absurd (omega arith)
-halves-long (p ∷ ps) (t ∷ ts) (s ∷ ss) tile h g =
-    length-append (half p (getD t tile 0) s) (halves ps ts ss tile)
-    ∙ omega (arith, half-long p (getD t tile 0) s, halves-long ps ts ss tile (omega arith) (omega arith))
-
-pub block-long : (ps : List Shade) (c : Chunk) (q : ℕ) → Shaped (length ps) c → q < 4 → length (blockOf ps c q) ≡ 8 * length ps
-unfolding blockOf
-block-long ps c q shaped h =
-    halves-long ps (c .tiles) (nthList (c .positions) q) (tileAt (c .encoding) q) (shaped .tiles) (nth-long (shaped .positions) q h)

@@ -27,10 +27,10 @@ use Rattle.crn_blocks.proofs.Paint.{painted-outside, outside-then, outside-star
 use Rattle.crn_blocks.proofs.Turns.{parity}
 use Rattle.crn_blocks.proofs.Rows.{chunk-number-right, chunk-number-left, inside-of}
 use Rattle.crn_unpacker.specs.Going.{Given, Fit, Course, Stands, Gone, Halted, Moved, Goes, none, stateAt, chunkHere, blockHere}
-use Rattle.crn_unpacker.specs.Blocks.{blockIn}
+use Rattle.crn_chunk_blocks.specs.Blocks.{blockIn}
 use Rattle.crn_unpacker.specs.declared.Went.{Went}
 use Rattle.crn_unpacker.specs.declared.Went.the-variants.{On, Stopped}
-use Rattle.crn_unpacker.proofs.Ranges.{read-so}
+use Rattle.crn_chunk_blocks.proofs.Ranges.{read-so}
 use Rattle.crn_unpacker.proofs.States.{state-got, state-lost, chunk-got, stays}
 
 -- ---- the answers

@@ -19,12 +19,14 @@ use Rattle.crn_chunks.specs.declared.Stop.{Stop}
 use Rattle.crn_blocks.specs.Sheet.{In, Outside, turn}
 use Rattle.crn_blocks.proofs.Turns.{chunk-below}
 use Rattle.crn_blocks.proofs.Whole.{whole}
+use Rattle.crn_chunk_blocks.specs.Blocks.{shadeOf}
+use Rattle.crn_chunk_blocks.proofs.Shapes.{Shaped, block-long}
 use Rattle.crn_unpacker.specs.States.{chunksTo}
-use Rattle.crn_unpacker.specs.Going.{Given, Fit, Course, Stands, Gone, Goes, stateAt, chunkHere, blockHere, shadeOf, shades, none}
+use Rattle.crn_unpacker.specs.Going.{Given, Fit, Course, Stands, Gone, Goes, stateAt, chunkHere, blockHere, shades, none}
 use Rattle.crn_unpacker.specs.declared.Went.{Went}
 use Rattle.crn_unpacker.specs.declared.Went.the-variants.{On, Stopped}
 use Rattle.crn_unpacker.proofs.States.{state-none, chunks-run, chunk-at}
-use Rattle.crn_unpacker.proofs.Shapes.{Sized, Shaped, chunk-shaped, block-long}
+use Rattle.crn_unpacker.proofs.Shapes.{Sized, chunk-shaped}
 
 -- ---- the start
 

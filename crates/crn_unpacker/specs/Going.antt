@@ -8,17 +8,17 @@ use Rattle.crn_format.specs.Choice.{pick}
 use Rattle.crn_format.specs.Limits.{tooLong}
 use Rattle.crn_format.specs.Reading.{Step, got, Spending}
 use Rattle.crn_format.specs.Level.{Running, Chunk}
-use Rattle.crn_format.specs.Grid.{Shade, color, alpha, inside, blockOf}
+use Rattle.crn_format.specs.Grid.{Shade, inside, blockOf}
 use Rattle.crn_format.specs.Opening.{Palettes}
 use Rattle.crn_format.specs.declared.Grid.{Grid}
+use Rattle.crn_formats.specs.Lent.{lentOf}
 use Rattle.crn_chunks.specs.Meaning.{source, spending, stopped, row, planes, Coded, Served, runningOf, Onward}
-use Rattle.crn_chunks.specs.declared.Side.{Side}
 use Rattle.crn_chunks.specs.declared.Planes.{Planes}
 use Rattle.crn_chunks.specs.declared.Carried.{Carried}
 use Rattle.crn_chunks.specs.declared.Stream.{Stream}
 use Rattle.crn_chunks.specs.declared.Stop.{Stop}
 use Rattle.crn_blocks.specs.Sheet.{Room, Painted, Outside}
-use Rattle.crn_blocks.specs.Halves.{Reach}
+use Rattle.crn_chunk_blocks.specs.Blocks.{shadeOf, Reaches}
 use Rattle.crn_unpacker.specs.States.{stateTo, chunkTo}
 use Rattle.crn_unpacker.specs.declared.Went.{Went}
 use Rattle.crn_unpacker.specs.declared.Went.the-variants.{On, Stopped}
@@ -38,18 +38,10 @@ given lookup sorted seg ends sels alphaEnds alphaSels ps g =
       lookup = lookup;
       sorted = sorted;
       seg = seg;
-      palettes = record { colorEnds = ends; colorSels = sels; alphaEnds = alphaEnds; alphaSels = alphaSels };
+      palettes = lentOf ends sels alphaEnds alphaSels;
       planes = ps;
       grid = g;
     }
-
--- a plane's palettes
-unfoldable pub shadeOf : Palettes → Side → Shade
-shadeOf p s = pick (s .alpha) (alpha (p .alphaEnds) (p .alphaSels)) (color (p .colorEnds) (p .colorSels))
-
--- they have as many entries as the plane says
-abbrev pub Reaches : Palettes → Side → Type 0
-Reaches p s = Reach (shadeOf p s) (s .endpoints) (s .selectors)
 
 -- it can be gone over, into n bytes
 pub record Fit (l : Given) (n : ℕ) : Type 0 where

@@ -1,4 +1,3 @@
 pub mod States
 pub mod Going
-pub mod Blocks
 pub mod Rows

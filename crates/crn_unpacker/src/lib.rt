@@ -11,7 +11,6 @@ use crn_chunks::Stop;
 use crn_chunks::Stream;
 use crn_format::Grid;
 
-mod blocks;
 mod rows;
 
 // How going over chunks ended: what is carried on, or the refusal.

@@ -4,15 +4,15 @@ use native.Mathlib.Omega.{arith}
 use lib.Seq.{sets}
 use Rattle.crn_format.specs.Opening.{Palettes}
 use Rattle.crn_consts.specs.Tiles.{tileIn}
+use Rattle.crn_formats.specs.Lent.{lentOf}
 use Rattle.crn_blocks.proofs.Putting.{put-both}
-use Rattle.crn_unpacker.specs.Blocks.{held}
-use Rattle.crn_unpacker.proofs.Positions.{of-one, of-two, eight-fit, sixteen-fit}
+use Rattle.crn_chunk_blocks.proofs.Positions.{of-one, of-two, eight-fit, sixteen-fit}
 use borrow.Author.Needs.{needs}
-use Rattle.crn_unpacker.proofs.blocks.block.Statement.{statement}
-use Rattle.crn_unpacker.proofs.blocks.block.Tie as tie
+use Rattle.crn_chunk_blocks.proofs.block.Statement.{statement}
+use Rattle.crn_chunk_blocks.proofs.block.Tie as tie
 
 abbrev palettes : tie.Start → Palettes
-palettes s = held (s .args .cends .now) (s .args .csels .now) (s .args .aends .now) (s .args .asels .now)
+palettes s = lentOf (s .args .cends .now) (s .args .csels .now) (s .args .aends .now) (s .args .asels .now)
 
 mul-tile : tie.Need-mul-tile
 mul-tile c = search needs

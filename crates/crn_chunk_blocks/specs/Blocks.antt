@@ -6,18 +6,23 @@ use mathlib.Core.List.{List, [], _++_}
 use lib.ListN.{getD}
 use Rattle.crn_format.specs.Choice.{pick}
 use Rattle.crn_format.specs.Level.{tileAt}
-use Rattle.crn_format.specs.Grid.{half, blockOf}
+use Rattle.crn_format.specs.Grid.{Shade, color, alpha, half, blockOf}
 use Rattle.crn_format.specs.Opening.{Palettes}
 use Rattle.crn_format.specs.declared.Grid.{Grid}
 use Rattle.crn_chunks.specs.Meaning.{row, chunkOf}
 use Rattle.crn_chunks.specs.Reads.{insideOf}
+use Rattle.crn_chunks.specs.declared.Side.{Side}
 use Rattle.crn_chunks.specs.declared.Planes.{Planes}
 use Rattle.crn_blocks.specs.Sheet.{Room}
-use Rattle.crn_blocks.specs.Halves.{Has}
-use Rattle.crn_unpacker.specs.Going.{shadeOf}
+use Rattle.crn_blocks.specs.Halves.{Has, Reach}
 
-abbrev pub held : List ℕ → List ℕ → List ℕ → List ℕ → Palettes
-held ends sels alphaEnds alphaSels = record { colorEnds = ends; colorSels = sels; alphaEnds = alphaEnds; alphaSels = alphaSels }
+-- a plane's palettes
+unfoldable pub shadeOf : Palettes → Side → Shade
+shadeOf p s = pick (s .alpha) (alpha (p .alphaEnds) (p .alphaSels)) (color (p .colorEnds) (p .colorSels))
+
+-- they have as many entries as the plane says
+abbrev pub Reaches : Palettes → Side → Type 0
+Reaches p s = Reach (shadeOf p s) (s .endpoints) (s .selectors)
 
 -- at position q, whose tile is given
 abbrev pub blockWith : Palettes → Planes → List ℕ → ℕ → ℕ → List ℕ

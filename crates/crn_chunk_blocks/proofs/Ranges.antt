@@ -23,9 +23,8 @@ use Rattle.crn_chunks.specs.declared.Stream.{Stream}
 use Rattle.crn_chunks.specs.declared.Chunked.{Chunked}
 use Rattle.crn_chunks.specs.declared.Chunked.the-variants.{Read}
 use Rattle.crn_blocks.specs.Halves.{Has, Reach}
-use Rattle.crn_unpacker.specs.Going.{shadeOf, Reaches}
-use Rattle.crn_unpacker.specs.Blocks.{Filled, AllFilled}
-use Rattle.crn_unpacker.proofs.Positions.{tile-below}
+use Rattle.crn_chunk_blocks.specs.Blocks.{shadeOf, Reaches, Filled, AllFilled}
+use Rattle.crn_chunk_blocks.proofs.Positions.{tile-below}
 
 -- ---- lists
 

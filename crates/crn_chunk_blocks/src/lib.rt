@@ -6,10 +6,10 @@ ghost use lib.Seq.{sets};
 ghost use lib.Dec.{ltb};
 ghost use Rattle.crn_format.specs.Choice.{pick};
 ghost use Rattle.crn_consts.specs.Tiles.{tileIn};
+ghost use Rattle.crn_formats.specs.Lent.{lentOf};
 ghost use Rattle.crn_blocks.specs.Sheet.{Covered, Painted, chunkNumber};
 ghost use Rattle.crn_blocks.specs.Halves.{Half, Has};
-ghost use Rattle.crn_unpacker.specs.Going.{shadeOf};
-ghost use Rattle.crn_unpacker.specs.Blocks.{held, blockWith, blockIn, Placeable, Filled, AllFilled};
+ghost use Rattle.crn_chunk_blocks.specs.Blocks.{shadeOf, blockWith, blockIn, Placeable, Filled, AllFilled};
 use crn_blocks::alpha_half;
 use crn_blocks::color_half;
 use crn_blocks::put_eight;
@@ -27,8 +27,8 @@ fn plane_half(
     e: u64,
     s: u64,
 ) -> u64
-    requires { ⌜ Has (shadeOf (held (now cends) (now csels) (now aends) (now asels)) p) e s ⌝ }
-    ensures { λ r. ⌜ Half (shadeOf (held (now (cends .entry)) (now (csels .entry)) (now (aends .entry)) (now (asels .entry))) p) e s r ⌝ }
+    requires { ⌜ Has (shadeOf (lentOf (now cends) (now csels) (now aends) (now asels)) p) e s ⌝ }
+    ensures { λ r. ⌜ Half (shadeOf (lentOf (now (cends .entry)) (now (csels .entry)) (now (aends .entry)) (now (asels .entry))) p) e s r ⌝ }
 {
     let of_alpha = p.alpha;
     if of_alpha {
@@ -50,8 +50,8 @@ fn block(
     at: usize,
     q: usize,
 )
-    requires { ⌜ q < 4 ⌝ ∗ ⌜ at + pick (ps .two) 16 8 ≤ length (now dst) ⌝ ∗ ⌜ Filled (held (now cends) (now csels) (now aends) (now asels)) ps (now out) (tileIn tiles q) q ⌝ }
-    ensures { λ _. ⌜ now (dst .exit) ≡ sets (now (dst .entry)) at (blockWith (held (now (cends .entry)) (now (csels .entry)) (now (aends .entry)) (now (asels .entry))) ps (now (out .entry)) (tileIn tiles q) q) ⌝ }
+    requires { ⌜ q < 4 ⌝ ∗ ⌜ at + pick (ps .two) 16 8 ≤ length (now dst) ⌝ ∗ ⌜ Filled (lentOf (now cends) (now csels) (now aends) (now asels)) ps (now out) (tileIn tiles q) q ⌝ }
+    ensures { λ _. ⌜ now (dst .exit) ≡ sets (now (dst .entry)) at (blockWith (lentOf (now (cends .entry)) (now (csels .entry)) (now (aends .entry)) (now (asels .entry))) ps (now (out .entry)) (tileIn tiles q) q) ⌝ }
 {
     let tile = (tiles >> (2 * q)) % 4;
     let first = ps.first;
@@ -90,8 +90,8 @@ pub fn blocks(
     right: bool,
     bottom: bool,
 )
-    requires { ⌜ Placeable ps g e (length (now dst)) ⌝ ∗ ⌜ Covered g face cx cy ⌝ ∗ ⌜ (right ≡ ltb (2 * cx + 1) (g .columns)) × (bottom ≡ ltb (2 * cy + 1) (g .rows)) ⌝ ∗ ⌜ AllFilled (held (now cends) (now csels) (now aends) (now asels)) ps e (now out) right bottom ⌝ }
-    ensures { λ _. ⌜ Painted g (blockIn (held (now (cends .entry)) (now (csels .entry)) (now (aends .entry)) (now (asels .entry))) ps e (now (out .entry))) (4 * chunkNumber g face cx cy) (4 * chunkNumber g face cx cy + 4) (now (dst .entry)) (now (dst .exit)) ⌝ }
+    requires { ⌜ Placeable ps g e (length (now dst)) ⌝ ∗ ⌜ Covered g face cx cy ⌝ ∗ ⌜ (right ≡ ltb (2 * cx + 1) (g .columns)) × (bottom ≡ ltb (2 * cy + 1) (g .rows)) ⌝ ∗ ⌜ AllFilled (lentOf (now cends) (now csels) (now aends) (now asels)) ps e (now out) right bottom ⌝ }
+    ensures { λ _. ⌜ Painted g (blockIn (lentOf (now (cends .entry)) (now (csels .entry)) (now (aends .entry)) (now (asels .entry))) ps e (now (out .entry))) (4 * chunkNumber g face cx cy) (4 * chunkNumber g face cx cy + 4) (now (dst .entry)) (now (dst .exit)) ⌝ }
 {
     let tiles = crn_consts::tiles(e) as usize;
     let base = face * g.distance + 2 * cy * g.pitch + 2 * cx * g.bytes;

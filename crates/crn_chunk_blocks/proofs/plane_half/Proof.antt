@@ -1,7 +1,7 @@
 -- A plane is an alpha or a colour plane.
-use Rattle.crn_unpacker.specs.Going.{shadeOf}
-use Rattle.crn_unpacker.proofs.blocks.plane_half.Statement.{statement}
-use Rattle.crn_unpacker.proofs.blocks.plane_half.Tie as tie
+use Rattle.crn_chunk_blocks.specs.Blocks.{shadeOf}
+use Rattle.crn_chunk_blocks.proofs.plane_half.Statement.{statement}
+use Rattle.crn_chunk_blocks.proofs.plane_half.Tie as tie
 
 alpha-half-requires : tie.Need-alpha-half-requires
 unfolding shadeOf

@@ -22,9 +22,8 @@ use Rattle.crn_chunks.specs.Reads.{insideOf}
 use Rattle.crn_chunks.specs.declared.Planes.{Planes}
 use Rattle.crn_blocks.specs.Sheet.{In, Covered}
 use Rattle.crn_blocks.specs.Halves.{Half}
-use Rattle.crn_unpacker.specs.Going.{shadeOf}
-use Rattle.crn_unpacker.specs.Blocks.{blockWith, blockIn}
-use Rattle.crn_unpacker.proofs.Shapes.{Shaped, none, more, block-long}
+use Rattle.crn_chunk_blocks.specs.Blocks.{shadeOf, blockWith, blockIn}
+use Rattle.crn_chunk_blocks.proofs.Shapes.{Shaped, none, more, block-long}
 
 -- the tile at a position is one of the encoding's
 abbrev known : ℕ → Bool

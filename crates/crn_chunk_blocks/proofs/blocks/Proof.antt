@@ -6,21 +6,22 @@ use Rattle.crn_format.specs.Grid.{placeOf}
 use Rattle.crn_format.specs.Opening.{Palettes}
 use mathlib.Core.Logic.{⊎-elim}
 use native.Mathlib.Omega.{arith}
+use Rattle.crn_formats.specs.Lent.{lentOf}
 use Rattle.crn_blocks.specs.Sheet.{In, Painted, chunkNumber}
 use Rattle.crn_blocks.proofs.Places.{Lies, lies, room-kept}
 use Rattle.crn_blocks.proofs.Paint.{start, then, until, put-in, skipped}
-use Rattle.crn_unpacker.specs.Blocks.{held, blockIn, Filled}
-use Rattle.crn_unpacker.proofs.Positions.{by-byte, same-block, block-sized, in-grid, off-grid, inside-so, place-by, first-in}
+use Rattle.crn_chunk_blocks.specs.Blocks.{blockIn, Filled}
+use Rattle.crn_chunk_blocks.proofs.Positions.{by-byte, same-block, block-sized, in-grid, off-grid, inside-so, place-by, first-in}
 use borrow.Author.Needs.{needs}
-use Rattle.crn_unpacker.proofs.blocks.blocks.Statement.{statement}
-use Rattle.crn_unpacker.proofs.blocks.blocks.Tie as tie
-use Rattle.crn_unpacker.proofs.blocks.blocks.Reads as reads
-use Rattle.crn_unpacker.proofs.blocks.blocks.Lts as lts
-use Rattle.crn_unpacker.proofs.blocks.block.Reads as block-reads
+use Rattle.crn_chunk_blocks.proofs.blocks.Statement.{statement}
+use Rattle.crn_chunk_blocks.proofs.blocks.Tie as tie
+use Rattle.crn_chunk_blocks.proofs.blocks.Reads as reads
+use Rattle.crn_chunk_blocks.proofs.blocks.Lts as lts
+use Rattle.crn_chunk_blocks.proofs.block.Reads as block-reads
 
 abbrev Inv-loop : tie.InvT-loop
 Inv-loop dst₀ out cends csels aends asels ps g e face cx cy right bottom tiles base q₀ dst q =
-    (q ≤ 4) × Painted g (blockIn (held cends csels aends asels) ps e out) (4 * chunkNumber g face cx cy) (4 * chunkNumber g face cx cy + q) dst₀ dst
+    (q ≤ 4) × Painted g (blockIn (lentOf cends csels aends asels) ps e out) (4 * chunkNumber g face cx cy) (4 * chunkNumber g face cx cy + q) dst₀ dst
 
 abbrev μ-loop : tie.MeasureT-loop
 μ-loop dst₀ out cends csels aends asels ps g e face cx cy right bottom tiles base q₀ dst q = 4 - q
@@ -29,7 +30,7 @@ abbrev Start : Type 0
 Start = tie.Start Inv-loop μ-loop
 
 abbrev palettes : Start → Palettes
-palettes s = held (s .args .cends .now) (s .args .csels .now) (s .args .aends .now) (s .args .asels .now)
+palettes s = lentOf (s .args .cends .now) (s .args .csels .now) (s .args .aends .now) (s .args .asels .now)
 
 -- the chunk's first block lies in the destination
 first : (s : Start) → Lies (s .args .g) (s .args .face) (2 * s .args .cx) (2 * s .args .cy) (length (s .args .dst .now))

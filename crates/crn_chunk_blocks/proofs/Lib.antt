@@ -1,0 +1,3 @@
+pub mod Shapes
+pub mod Positions
+pub mod Ranges
