@@ -10,7 +10,7 @@ ghost use Rattle.crn_blocks.specs.Sheet.{Covered, chunkNumber, rowStart};
 ghost use Rattle.crn_unpacker.specs.Going.{given, Fit, Goes};
 ghost use Rattle.crn_unpacker.specs.Rows.{Rows};
 use crate::Went;
-use crate::blocks::blocks;
+use crn_chunk_blocks::blocks;
 use crn_chunks::Carried;
 use crn_chunks::Chunked;
 use crn_chunks::Planes;

@@ -1,7 +1,7 @@
 -- A chunk that is read is one chunk more of the run, and one that is refused ends it.
 use mathlib.Core.Path.{refl}
 use borrow.Author.Needs.{needs}
-use Rattle.crn_unpacker.proofs.Ranges.{filled}
+use Rattle.crn_chunk_blocks.proofs.Ranges.{filled}
 use Rattle.crn_unpacker.proofs.Steps.{chunk-goes, chunk-stops}
 use Rattle.crn_unpacker.proofs.rows.chunk.Statement.{statement}
 use Rattle.crn_unpacker.proofs.rows.chunk.Tie as tie
