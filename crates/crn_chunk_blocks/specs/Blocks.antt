@@ -24,13 +24,13 @@ shadeOf p s = pick (s .alpha) (alpha (p .alphaEnds) (p .alphaSels)) (color (p .c
 abbrev pub Reaches : Palettes → Side → Type 0
 Reaches p s = Reach (shadeOf p s) (s .endpoints) (s .selectors)
 
--- at position q, whose tile is given
+-- the block at position q of a chunk that has these indices, whose tile is given
 abbrev pub blockWith : Palettes → Planes → List ℕ → ℕ → ℕ → List ℕ
 blockWith p ps out tile q =
     half (shadeOf p (ps .first)) (getD out tile 0) (getD out (8 + q) 0)
     ++ pick (ps .two) (half (shadeOf p (ps .second)) (getD out (4 + tile) 0) (getD out (12 + q) 0)) []
 
--- of the chunk's encoding and indices; the position is that of turn t
+-- the same by the chunk's encoding; the position is that of turn t
 unfoldable pub blockIn : Palettes → Planes → ℕ → List ℕ → ℕ → List ℕ
 unfolding shadeOf chunkOf blockOf
 blockIn p ps e out t =
