@@ -9,7 +9,7 @@ use Rattle.crn_format.specs.Unpacking.{Unpacking}
 use Rattle.crn_formats.specs.Lent.{lentOf}
 use Rattle.crn_opening.specs.declared.opening.Opened.{Opened}
 use Rattle.crn_opening.specs.Opens.{openedBy}
-use Rattle.crn_opening.proofs.«open».Reads as opening
+use Rattle.crunch.proofs.«open».Reads as opening
 use Rattle.crn_opening.proofs.open_into.Reads as open-into
 use Rattle.crn_drawing.specs.Unpacks.{answerOf, symbolsOf, Unpacks}
 use Rattle.crn_drawing.specs.declared.Unpacked.{Unpacked}

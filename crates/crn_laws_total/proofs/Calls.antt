@@ -10,7 +10,7 @@ use Rattle.crn_format.specs.Unpacking.{Unpacking, unpacking}
 use Rattle.crn_format.specs.declared.Record.{Record}
 use Rattle.crn_formats.specs.Lent.{lentOf}
 use Rattle.crn_formats.specs.Records.{recordBy}
-use Rattle.crn_opening.proofs.«open».Reads as open-call
+use Rattle.crunch.proofs.«open».Reads as open-call
 use Rattle.crn_opening.proofs.open_into.Reads as open-into
 use Rattle.crn_opening.specs.Opens.{openedBy, toOpened, buffersOf, Opens}
 use Rattle.crn_opening.specs.declared.opening.Opened.{Opened}

@@ -5,5 +5,4 @@ mod opening; // the whole opening
 
 pub use opening::Opened;
 pub use opening::OpenedHeader;
-pub use opening::open;
 pub use opening::open_into;

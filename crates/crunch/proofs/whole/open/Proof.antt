@@ -1,7 +1,7 @@
 -- Opening, with the record put together.
 use borrow.Author.Needs.{needs}
-use Rattle.crn_opening.proofs.opening.open.Statement.{statement}
-use Rattle.crn_opening.proofs.opening.open.Tie as tie
+use Rattle.crunch.proofs.whole.open.Statement.{statement}
+use Rattle.crunch.proofs.whole.open.Tie as tie
 
 same-length : tie.Need-same-length
 same-length c = search needs

@@ -1,0 +1,71 @@
+// The record put together, for those who want it whole.
+use crn_format::Record;
+use crn_format::Table;
+use crn_format::Tables;
+use crn_opening::Opened;
+use crn_opening::open_into;
+ghost use Rattle.crn_format.specs.Opening.{opening as «openingOf»};
+ghost use Rattle.crn_formats.specs.Lent.{lentOf};
+ghost use Rattle.crn_opening.specs.Opens.{Opens};
+
+// A file opened as `open_into` opens it, with the record handed back whole.
+pub fn open(
+    file: &[u8],
+    color_endpoints: &mut [u32],
+    color_selectors: &mut [u32],
+    alpha_endpoints: &mut [u16],
+    alpha_selectors: &mut [u16],
+) -> Opened
+    ensures { λ r. ⌜ Opens («openingOf» (now (file .entry)) (lentOf (now («color_endpoints» .entry)) (now («color_selectors» .entry)) (now («alpha_endpoints» .entry)) (now («alpha_selectors» .entry)))) (lentOf (now («color_endpoints» .exit)) (now («color_selectors» .exit)) (now («alpha_endpoints» .exit)) (now («alpha_selectors» .exit))) r ⌝ }
+{
+    let mut chunk = [0u8; 8192];
+    let mut color_ends = [0u8; 8192];
+    let mut color_sels = [0u8; 8192];
+    let mut alpha_ends = [0u8; 8192];
+    let mut alpha_sels = [0u8; 8192];
+    let opened = open_into(
+        file,
+        color_endpoints,
+        color_selectors,
+        alpha_endpoints,
+        alpha_selectors,
+        &mut chunk,
+        &mut color_ends,
+        &mut color_sels,
+        &mut alpha_ends,
+        &mut alpha_sels,
+    );
+    let header = opened.header;
+    let counts = opened.counts;
+    let tables = Tables {
+        chunk_encoding: Table {
+            count: counts.chunk,
+            lengths: chunk,
+        },
+        color_endpoint_delta: Table {
+            count: counts.color_ends,
+            lengths: color_ends,
+        },
+        color_selector_delta: Table {
+            count: counts.color_sels,
+            lengths: color_sels,
+        },
+        alpha_endpoint_delta: Table {
+            count: counts.alpha_ends,
+            lengths: alpha_ends,
+        },
+        alpha_selector_delta: Table {
+            count: counts.alpha_sels,
+            lengths: alpha_sels,
+        },
+    };
+    let record = Record {
+        header: header,
+        tables: tables,
+    };
+    Opened {
+        refusal: opened.refusal,
+        at: opened.at,
+        file: record,
+    }
+}
