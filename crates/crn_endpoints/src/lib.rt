@@ -15,9 +15,12 @@ ghost use Rattle.crn_palettes.specs.Reaching.{Reaches};
 ghost use Rattle.crn_endpoints.specs.Endpoints.{alphaEntries, colorEntries, sixBits, modulusOf, Small};
 use crn_palettes::Ended;
 use crn_palettes::Reached;
+use crn_palettes::Sent;
+use crn_palettes::build_decoder;
 use crn_palettes::clear16;
 use crn_palettes::clear32;
-use crn_palettes::receive_decoder;
+use crn_palettes::few;
+use crn_palettes::receive_lengths;
 use crn_palettes::wide;
 use crn_short_draw::draw;
 use crn_short_draw::ready;
@@ -220,21 +223,45 @@ pub fn color_endpoints(seg: &[u8], count: usize, out: &mut [u32]) -> Ended
     requires { ⌜ (length (now seg) < tooLong) × (count ≤ maxEntries) × (count ≤ length (now out)) ⌝ }
     ensures { λ r. ⌜ Fills (now (seg .entry)) (colorEndpoints count) (now (out .entry)) (now (out .exit)) r ⌝ }
 {
-    let mut lookup5 = [0u32; 2080];
-    let mut sorted5 = [0u16; 8192];
-    let mut lookup6 = [0u32; 2080];
-    let mut sorted6 = [0u16; 8192];
-    match receive_decoder(seg, start(seg), &mut lookup5, &mut sorted5) {
-        Reached::To(c) => match receive_decoder(seg, c, &mut lookup6, &mut sorted6) {
-            Reached::To(d) => {
-                color_words(&lookup5, &sorted5, &lookup6, &sorted6, seg, d, count, out)
+    let mut lengths5 = [0u8; 8192];
+    match receive_lengths(seg, start(seg), &mut lengths5) {
+        Sent::Table(n, c) => {
+            let mut lengths6 = [0u8; 8192];
+            match receive_lengths(seg, c, &mut lengths6) {
+                Sent::Table(m, d) => {
+                    if few(n, m, count) {
+                        let mut lookup5 = [0u32; 544];
+                        let mut sorted5 = [0u16; 256];
+                        let mut lookup6 = [0u32; 544];
+                        let mut sorted6 = [0u16; 256];
+                        build_decoder(&lengths5, n, 9, &mut lookup5, &mut sorted5);
+                        build_decoder(&lengths6, m, 9, &mut lookup6, &mut sorted6);
+                        return color_words(
+                            &lookup5,
+                            &sorted5,
+                            &lookup6,
+                            &sorted6,
+                            seg,
+                            d,
+                            count,
+                            out,
+                        );
+                    }
+                    let mut lookup5 = [0u32; 2080];
+                    let mut sorted5 = [0u16; 8192];
+                    let mut lookup6 = [0u32; 2080];
+                    let mut sorted6 = [0u16; 8192];
+                    build_decoder(&lengths5, n, 11, &mut lookup5, &mut sorted5);
+                    build_decoder(&lengths6, m, 11, &mut lookup6, &mut sorted6);
+                    color_words(&lookup5, &sorted5, &lookup6, &sorted6, seg, d, count, out)
+                }
+                Sent::Refused(refusal, at) => {
+                    clear32(out);
+                    Ended { refusal, at }
+                }
             }
-            Reached::Refused(refusal, at) => {
-                clear32(out);
-                Ended { refusal, at }
-            }
-        },
-        Reached::Refused(refusal, at) => {
+        }
+        Sent::Refused(refusal, at) => {
             clear32(out);
             Ended { refusal, at }
         }
@@ -246,11 +273,21 @@ pub fn alpha_endpoints(seg: &[u8], count: usize, out: &mut [u16]) -> Ended
     requires { ⌜ (length (now seg) < tooLong) × (count ≤ maxEntries) × (count ≤ length (now out)) ⌝ }
     ensures { λ r. ⌜ Fills (now (seg .entry)) (alphaEndpoints count) (now (out .entry)) (now (out .exit)) r ⌝ }
 {
-    let mut lookup = [0u32; 2080];
-    let mut sorted = [0u16; 8192];
-    match receive_decoder(seg, start(seg), &mut lookup, &mut sorted) {
-        Reached::To(c) => alpha_words(&lookup, &sorted, seg, c, count, out),
-        Reached::Refused(refusal, at) => {
+    let mut lengths = [0u8; 8192];
+    match receive_lengths(seg, start(seg), &mut lengths) {
+        Sent::Table(n, c) => {
+            if few(n, n, count) {
+                let mut lookup = [0u32; 544];
+                let mut sorted = [0u16; 256];
+                build_decoder(&lengths, n, 9, &mut lookup, &mut sorted);
+                return alpha_words(&lookup, &sorted, seg, c, count, out);
+            }
+            let mut lookup = [0u32; 2080];
+            let mut sorted = [0u16; 8192];
+            build_decoder(&lengths, n, 11, &mut lookup, &mut sorted);
+            alpha_words(&lookup, &sorted, seg, c, count, out)
+        }
+        Sent::Refused(refusal, at) => {
             clear16(out);
             Ended { refusal, at }
         }

@@ -10,11 +10,11 @@ use Rattle.crn_consts.specs.declared.Deltas.{Deltas}
 use Rattle.crn_consts.specs.AlphaDeltas.{AllDeltas, alphaDeltas}
 use Rattle.crn_consts.proofs.alpha_delta_pairs.Reads as alpha-delta-pairs
 use Rattle.crn_format.specs.Reading.{Place}
-use Rattle.crn_palettes.specs.Reaching.{reached}
+use Rattle.crn_palettes.specs.Reaching.{reached, reachedBy}
 use Rattle.crn_palettes.specs.declared.Ended.{Ended}
 use Rattle.crn_palettes.specs.declared.reading.Reached.{Reached}
 use Rattle.crn_palettes.specs.declared.reading.Reached.the-variants.{To, Refused}
-use Rattle.crn_palettes.proofs.receive_decoder.Reads as receive-decoder
+use Rattle.crn_palettes.proofs.receive_lengths.Reads as receive-lengths
 use Rattle.crn_endpoints.proofs.color_endpoints.Reads as color-endpoints
 use Rattle.crn_selectors.proofs.color_selectors.Reads as color-selectors
 use Rattle.crn_endpoints.proofs.alpha_endpoints.Reads as alpha-endpoints
@@ -43,8 +43,8 @@ reached-tells us vs a b (To d) (Refused n p) f = absurd (got-or-refused f)
 reached-tells us vs a b (Refused n p) (To d) f = absurd (got-or-refused (sym f))
 reached-tells us vs a b (Refused n p) (Refused m q) f = let both = refused-tells f in λ i. (both .0 i, both .1 i .at)
 
-pub receive-decoder-settled : Settled receive-decoder.Post (λ a r e. reachedSeen r)
-receive-decoder-settled _ _ _ r s _ _ p q = reached-tells _ _ _ _ r s (sym (p .reads 0 .same) ∙ q .reads 0 .same)
+pub receive-lengths-settled : Settled receive-lengths.Post (λ a r e. reachedSeen (reachedBy r))
+receive-lengths-settled _ _ _ r s _ _ p q = reached-tells _ _ _ _ (reachedBy r) (reachedBy s) (sym (p .reads 0 .same) ∙ q .reads 0 .same)
 
 -- ---- the table of pairs, which has 450 bytes as its type says
 

@@ -1,8 +1,8 @@
 -- The lengths of a table that is accepted: none is above 16, and there are 8,192 at most.
-use Prim.Native.Nat.{ℕ, zero, suc, _+_, _≤_}
+use Prim.Native.Nat.{ℕ, zero, suc, _+_, _-_, _≤_}
 use mathlib.Core.Bool.{Bool, true, false}
 use mathlib.Core.List.{List, [], _++_}
-use mathlib.Core.Path.{_≡_, refl, ap}
+use mathlib.Core.Path.{_≡_, refl, ap, _∙_}
 use native.Mathlib.Omega.{arith}
 use native.Mathlib.Decide.{decLe}
 use lib.ListN.{length, replicate, length-append, length-replicate}
@@ -71,3 +71,9 @@ count-fits t e = go (decLe (t .count) (length (t .lengths))) (ap (λ (x : Table)
     go : Dec (t .count ≤ length (t .lengths)) → t .count ≡ length (lengthsOf t) → t .count ≤ length (t .lengths)
     go (yes h) f = h
     go (no h) f = omega (arith, f, ap length (take-all (t .count) (t .lengths) (omega arith)))
+
+-- a whole table has all its lengths
+pub whole-long : {t : Table} → t ≡ tableOf (lengthsOf t) → length (lengthsOf t) ≤ maxSymbols → length (t .lengths) ≡ maxSymbols
+whole-long {t} e f =
+    ap (λ (x : Table). length (x .lengths)) e ∙ length-append (lengthsOf t) (replicate (maxSymbols - length (lengthsOf t)) 0)
+    ∙ ap (λ (n : ℕ). length (lengthsOf t) + n) (length-replicate {A = ℕ} (maxSymbols - length (lengthsOf t)) 0) ∙ omega arith

@@ -1,7 +1,8 @@
 -- From a palette's first bit to its entries: its tables are received, and what is left to be run ends as the palette does.
 use Prim.Native.Nat.{ℕ}
 use mathlib.Core.List.{List}
-use mathlib.Core.Path.{_≡_, refl, sym, ap}
+use mathlib.Core.Path.{_≡_, refl, sym, ap, subst}
+use lib.ListN.{take}
 use Rattle.crn_format.specs.Reading.{Reading, next, Step, refused, Place, spot, start, run, fromBits}
 use Rattle.crn_format.specs.Tables.{table}
 use Rattle.crn_format.specs.Opening.{zeros}
@@ -9,10 +10,12 @@ use Rattle.crn_symbol_codec.specs.Cursors.{place, Holds}
 use Rattle.crn_symbol_codec.specs.Decoders.{Decodes, SomeCode}
 use Rattle.crn_symbol_codec.specs.declared.Cursor.{Cursor}
 use Rattle.crn_palettes.specs.Filling.{Fills, FillsFrom}
-use Rattle.crn_palettes.specs.Reaching.{Received}
+use Rattle.crn_palettes.specs.Reaching.{Reaches, Codes, reachedBy, Counted, Lengths, Received}
 use Rattle.crn_palettes.specs.declared.Ended.{Ended}
 use Rattle.crn_palettes.specs.declared.reading.Reached.{Reached}
 use Rattle.crn_palettes.specs.declared.reading.Reached.the-variants.{To, Refused}
+use Rattle.crn_palettes.specs.declared.reading.Sent.{Sent}
+use Rattle.crn_palettes.specs.declared.reading.Sent.the-variants.{Table, Refused as Declined}
 use Rattle.crn_palettes.proofs.Leaving.{Left, left-next, left-stop, next-holds}
 use Rattle.crn_palettes.proofs.Entering.{fills-none}
 
@@ -24,6 +27,29 @@ all-left seg m c e = record { blamed = 0; same = ap (λ (p : ℕ). run (fromBits
 pub fills-left : {seg : List ℕ} {m rest : Reading (List ℕ)} {d : Cursor} {before after : List ℕ} {r : Ended} → FillsFrom seg d rest before after r → Left seg rest d (run (fromBits seg) m start)
     → Fills seg m before after r
 fills-left {m = m} f l = f m (l .blamed) (sym (l .same))
+
+-- a table that was received, with its decoder table
+module _ {seg : List ℕ} {c : Cursor} {lent : List ℕ} {r : Sent} (x : Lengths seg c lent r) where
+  pub table-codes : {n : ℕ} {d : Cursor} → r ≡ Table n d → Codes lent n
+  table-codes e = subst (Counted (Codes lent)) e (x .codes)
+
+  pub table-holds : {n : ℕ} {d : Cursor} → r ≡ Table n d → Holds seg d
+  table-holds e = next-holds (Holds seg) (x .reads 0 .holds) (ap reachedBy e)
+
+  pub table-left : {n : ℕ} {d : Cursor} → r ≡ Table n d → (k : List ℕ → Reading (List ℕ)) {whole : Step Place (List ℕ)} → Left seg (next table k) c whole → Left seg (k (x .lengths)) d whole
+  table-left e k l = left-next k l (x .reads) (ap reachedBy e)
+
+  pub table-decoder : {n : ℕ} {d : Cursor} → r ≡ Table n d → {lookup sorted : List ℕ} → Decodes (take n lent) lookup sorted → Received seg c lookup sorted (To d)
+  table-decoder e {lookup} {sorted} k =
+      record {
+        lengths = x .lengths;
+        reads = λ b. subst (λ (y : Sent). Reaches seg table c b (x .lengths) (reachedBy y)) e (x .reads b);
+        decodes = rw (subst (Counted (λ n. take n lent ≡ x .lengths)) e (x .same)) at k;
+      }
+
+  pub no-table : {n p : ℕ} → r ≡ Declined n p → (lookup sorted : List ℕ) → Received seg c lookup sorted (Refused n p)
+  no-table e lookup sorted =
+      record { lengths = x .lengths; reads = λ b. subst (λ (y : Sent). Reaches seg table c b (x .lengths) (reachedBy y)) e (x .reads b); decodes = tt }
 
 module _ {seg : List ℕ} {c : Cursor} {lookup sorted : List ℕ} {r : Reached} (x : Received seg c lookup sorted r) where
   module _ {d : Cursor} (e : r ≡ To d) where

@@ -1,7 +1,11 @@
 -- What a part of a palette answers: the cursor after it, or the refusal and the bit that it names.
-use Prim.Native.Nat.{ℕ, zero, suc}
+use Prim.Native.Nat.{ℕ, zero, suc, _≤_}
 use mathlib.Core.Path.{_≡_}
+use mathlib.Core.Bool.{true}
 use mathlib.Core.List.{List}
+use lib.ListN.{length, take}
+use Rattle.crn_format.specs.Limits.{maxSymbols}
+use Rattle.crn_format.specs.Codes.{allFit}
 use Rattle.crn_format.specs.Reading.{Reading, Step, got, refused, Place, spot, run, fromBits}
 use Rattle.crn_format.specs.Tables.{table}
 use Rattle.crn_symbol_codec.specs.Cursors.{place, Holds, Enough}
@@ -9,6 +13,8 @@ use Rattle.crn_symbol_codec.specs.Decoders.{Decodes}
 use Rattle.crn_symbol_codec.specs.declared.Cursor.{Cursor}
 use Rattle.crn_palettes.specs.declared.reading.Reached.{Reached}
 use Rattle.crn_palettes.specs.declared.reading.Reached.the-variants.{To, Refused}
+use Rattle.crn_palettes.specs.declared.reading.Sent.{Sent}
+use Rattle.crn_palettes.specs.declared.reading.Sent.the-variants.{Table, Refused as Declined}
 
 -- a cursor by its parts
 abbrev pub cursorAt : ℕ → ℕ → ℕ → Cursor
@@ -40,6 +46,30 @@ pub record Reaches (seg : List ℕ) (m : Reading (List ℕ)) (c : Cursor) (b : �
   pub blamed : ℕ
   pub same : run (fromBits seg) m (spot (place c) b) ≡ reached vs blamed r
   pub holds : Next (Holds seg) r
+
+-- the first n of 8,192 lent lengths may make a code
+pub record Codes (lent : List ℕ) (n : ℕ) : Type 0 where
+  pub long : length lent ≡ maxSymbols
+  pub within : n ≤ length lent
+  pub short : allFit (take n lent) (length (take n lent)) ≡ true
+  pub few : length (take n lent) ≤ maxSymbols
+
+-- a table's answer, without the count
+abbrev pub reachedBy : Sent → Reached
+reachedBy (Table n d) = To d
+reachedBy (Declined n p) = Refused n p
+
+-- what holds of the count, where there is one
+abbrev pub Counted : (ℕ → Type 0) → Sent → Type 0
+Counted holds (Table n d) = holds n
+Counted holds (Declined n p) = Unit {0}
+
+-- a table is received at the cursor c into `lent`
+pub record Lengths (seg : List ℕ) (c : Cursor) (lent : List ℕ) (r : Sent) : Type 0 where
+  pub lengths : List ℕ
+  pub reads : (b : ℕ) → Reaches seg table c b lengths (reachedBy r)
+  pub codes : Counted (Codes lent) r
+  pub same : Counted (λ n. take n lent ≡ lengths) r
 
 -- a table is received at the cursor c, and `lookup` and `sorted` decode it
 pub record Received (seg : List ℕ) (c : Cursor) (lookup sorted : List ℕ) (r : Reached) : Type 0 where

@@ -6,8 +6,11 @@ mod reading;
 pub use clearing::clear16;
 pub use clearing::clear32;
 pub use reading::Reached;
+pub use reading::Sent;
+pub use reading::build_decoder;
+pub use reading::few;
 pub use reading::filled;
-pub use reading::receive_decoder;
+pub use reading::receive_lengths;
 pub use reading::wide;
 
 // How reading a palette ended: 0 and 0; or the refusal and the bit that it names.

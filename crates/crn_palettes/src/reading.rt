@@ -1,21 +1,26 @@
 // The parts that every palette is read by: its code tables, and a running value.
 ghost use mathlib.Core.Path.{_≡_};
+ghost use mathlib.Core.Bool.{true};
 ghost use Prim.Native.Nat.{_+_, _^_, _<_, _≤_};
-ghost use lib.ListN.{length};
+ghost use lib.ListN.{length, take, replicate};
 ghost use Rattle.crn_format.specs.Limits.{tooLong, maxSymbols};
 ghost use Rattle.crn_symbol_codec.specs.Cursors.{Holds};
-ghost use Rattle.crn_palettes.specs.Reaching.{Near, Received};
+ghost use Rattle.crn_symbol_codec.specs.Decoders.{Decodes};
+ghost use Rattle.crn_palettes.specs.Reaching.{Near, Codes, Lengths};
 use crn_code_tables::receive;
 use crn_static_huffman_data_model::build;
 use crn_symbol_codec::Cursor;
 use crn_symbol_codec::refill;
 
-// How many first bits of a code are looked up: 11, as `receive_decoder` requires room for.
-const LOOKED_UP: u64 = 11;
-
 // The cursor after a part; or the refusal and the bit that it names.
 pub enum Reached {
     To(Cursor),
+    Refused(u32, usize),
+}
+
+// A code table that was received: how many symbols it has, and the cursor after it; or the refusal and the bit that it names.
+pub enum Sent {
+    Table(usize, Cursor),
     Refused(u32, usize),
 }
 
@@ -37,20 +42,44 @@ pub fn filled(seg: &[u8], c: Cursor) -> Cursor
     c
 }
 
-// A code table is received, and its decoder table built.
-pub fn receive_decoder(seg: &[u8], c: Cursor, lookup: &mut [u32], sorted: &mut [u16]) -> Reached
-    requires { ⌜ Holds (now seg) c ⌝ ∗ ⌜ length (now seg) < tooLong ⌝ ∗ ⌜ (32 + 2 ^ 11 ≤ length (now lookup)) × (maxSymbols ≤ length (now sorted)) ⌝ }
-    ensures { λ r. ⌜ Received (now (seg .entry)) c (now (lookup .exit)) (now (sorted .exit)) r ⌝ }
+// A code table is received into lengths that are all zero.
+pub fn receive_lengths(seg: &[u8], c: Cursor, lengths: &mut [u8; 8192]) -> Sent
+    requires { ⌜ Holds (now seg) c ⌝ ∗ ⌜ length (now seg) < tooLong ⌝ ∗ ⌜ now lengths ≡ replicate maxSymbols 0 ⌝ }
+    ensures { λ r. ⌜ Lengths (now (seg .entry)) c (now (lengths .exit)) r ⌝ }
 {
-    let mut lengths = [0u8; 8192];
-    let received = receive(seg, c, &mut lengths);
+    let received = receive(seg, c, lengths);
     let number = received.refusal;
     let at = received.at;
     let after = received.cursor;
     if number != 0 {
-        return Reached::Refused(number, at);
+        return Sent::Refused(number, at);
     }
-    let count = received.count as usize;
-    build(&lengths[..count], LOOKED_UP, lookup, sorted);
-    Reached::To(after)
+    Sent::Table(received.count as usize, after)
+}
+
+// The decoder table of the first `count` lengths; at most `most` first bits of a code are looked up.
+pub fn build_decoder(
+    lengths: &[u8],
+    count: usize,
+    most: u64,
+    lookup: &mut [u32],
+    sorted: &mut [u16],
+)
+    requires { ⌜ Codes (now lengths) count ⌝ ∗ ⌜ (0 < most) × (most ≤ 13) × (32 + 2 ^ most ≤ length (now lookup)) × (count ≤ length (now sorted)) ⌝ }
+    ensures { λ _. ⌜ Decodes (take count (now (lengths .entry))) (now (lookup .exit)) (now (sorted .exit)) ⌝ }
+{
+    build(&lengths[..count], most, lookup, sorted);
+}
+
+// Whether small arrays do for tables of so many symbols: room for 256, and for 9 first bits looked up, which few entries are read by.
+pub fn few(symbols: usize, others: usize, entries: usize) -> bool
+    ensures { λ r. ⌜ (r ≡ true → (symbols ≤ 256) × (others ≤ 256)) ⌝ }
+{
+    if 256 < symbols {
+        return false;
+    }
+    if 256 < others {
+        return false;
+    }
+    entries < 1000
 }

@@ -14,11 +14,13 @@ ghost use Rattle.crn_palettes.specs.Reaching.{cursorAt};
 ghost use Rattle.crn_selectors.specs.Selectors.{pairsOf, bitsOf, linearOf, Kept, DeltasOf, Halves, PairDelta, PairMoved, writtenPair, DeltaTable, WordTable, Pairs, NextWord, threeWords, colorEntries, alphaEntries};
 use crn_consts::Deltas;
 use crn_palettes::Ended;
-use crn_palettes::Reached;
+use crn_palettes::Sent;
+use crn_palettes::build_decoder;
 use crn_palettes::clear16;
 use crn_palettes::clear32;
+use crn_palettes::few;
 use crn_palettes::filled;
-use crn_palettes::receive_decoder;
+use crn_palettes::receive_lengths;
 use crn_palettes::wide;
 use crn_symbol_codec::Cursor;
 use crn_symbol_codec::Taken;
@@ -324,11 +326,21 @@ pub fn color_selectors(seg: &[u8], count: usize, out: &mut [u32]) -> Ended
     requires { ⌜ (length (now seg) < tooLong) × (count ≤ maxEntries) × (count ≤ length (now out)) ⌝ }
     ensures { λ r. ⌜ Fills (now (seg .entry)) (colorSelectors count) (now (out .entry)) (now (out .exit)) r ⌝ }
 {
-    let mut lookup = [0u32; 2080];
-    let mut sorted = [0u16; 8192];
-    match receive_decoder(seg, start(seg), &mut lookup, &mut sorted) {
-        Reached::To(c) => color_words(&lookup, &sorted, seg, c, count, out),
-        Reached::Refused(refusal, at) => {
+    let mut lengths = [0u8; 8192];
+    match receive_lengths(seg, start(seg), &mut lengths) {
+        Sent::Table(n, c) => {
+            if few(n, n, count) {
+                let mut lookup = [0u32; 544];
+                let mut sorted = [0u16; 256];
+                build_decoder(&lengths, n, 9, &mut lookup, &mut sorted);
+                return color_words(&lookup, &sorted, seg, c, count, out);
+            }
+            let mut lookup = [0u32; 2080];
+            let mut sorted = [0u16; 8192];
+            build_decoder(&lengths, n, 11, &mut lookup, &mut sorted);
+            color_words(&lookup, &sorted, seg, c, count, out)
+        }
+        Sent::Refused(refusal, at) => {
             clear32(out);
             Ended { refusal, at }
         }
@@ -340,11 +352,21 @@ pub fn alpha_selectors(seg: &[u8], count: usize, out: &mut [u16]) -> Ended
     requires { ⌜ (length (now seg) < tooLong) × (count ≤ maxEntries) × (3 * count ≤ length (now out)) ⌝ }
     ensures { λ r. ⌜ Fills (now (seg .entry)) (alphaSelectors count) (now (out .entry)) (now (out .exit)) r ⌝ }
 {
-    let mut lookup = [0u32; 2080];
-    let mut sorted = [0u16; 8192];
-    match receive_decoder(seg, start(seg), &mut lookup, &mut sorted) {
-        Reached::To(c) => alpha_words(&lookup, &sorted, seg, c, count, out),
-        Reached::Refused(refusal, at) => {
+    let mut lengths = [0u8; 8192];
+    match receive_lengths(seg, start(seg), &mut lengths) {
+        Sent::Table(n, c) => {
+            if few(n, n, count) {
+                let mut lookup = [0u32; 544];
+                let mut sorted = [0u16; 256];
+                build_decoder(&lengths, n, 9, &mut lookup, &mut sorted);
+                return alpha_words(&lookup, &sorted, seg, c, count, out);
+            }
+            let mut lookup = [0u32; 2080];
+            let mut sorted = [0u16; 8192];
+            build_decoder(&lengths, n, 11, &mut lookup, &mut sorted);
+            alpha_words(&lookup, &sorted, seg, c, count, out)
+        }
+        Sent::Refused(refusal, at) => {
             clear16(out);
             Ended { refusal, at }
         }
