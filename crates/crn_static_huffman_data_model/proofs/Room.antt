@@ -3,18 +3,21 @@ use Prim.Native.Nat.{ℕ, zero, suc, _+_, _-_, _^_, _<_, _≤_}
 use mathlib.Core.List.{List}
 use mathlib.Core.Bool.{Bool, true, false}
 use mathlib.Core.Logic.{_⊎_, inl, inr, ⊎-elim}
-use mathlib.Core.Path.{_≡_, refl, sym, ap, _∙_}
+use mathlib.Core.Path.{_≡_, refl, sym, ap, ap₂, _∙_}
 use native.Mathlib.Omega.{arith}
 use native.Mathlib.Numerals.{add-one}
 use native.Mathlib.Decide.{ℕ-discrete, decLe, decLt}
 use lib.ListN.{length, getD, List·getD-eq-default}
 use lib.Dec.{leb, ltb, eqb}
 use lib.Pow.{pow-pos}
-use borrow.Author.Tests.{eq-eqb, ne-eqb, le-leb, lt-leb, lt-ltb}
+use borrow.Author.Tests.{eq-eqb, ne-eqb, le-leb, lt-leb, le-ltb, lt-ltb}
 use Rattle.crn_format.specs.Choice.{pick, both}
 use Rattle.crn_format.specs.Codes.{below, used, longestUpTo, longest, room, allFit, isCode}
 use Rattle.crn_format.proofs.Drawing.{below-lt, used-pos, last-above}
-use Rattle.crn_static_huffman_data_model.specs.Building.{Short, Counted, Last}
+use Rattle.crn_static_huffman_data_model.specs.Building.{shareOf, shareBy, Sums, Short, Counted, Last}
+
+never : _≡_ {A = Bool} true false → ⊥
+never e = let z : _≡_ {A = ℕ} 0 1 = cc in omega arith
 
 -- ---- no length above 16
 
@@ -128,3 +131,44 @@ by-room t e = rw (e, longest-by-room t (fit-short t e))
 pub both-true : (b : Bool) → both b true ≡ b
 both-true true = refl
 both-true false = refl
+
+-- ---- summed one after the other
+
+fit-same : (t : List ℕ) (n : ℕ) → getD t n 0 ≤ 16 → allFit t (n + 1) ≡ allFit t n
+unfolding allFit
+fit-same t n h = rw (add-one n) (simp (le-leb _ _ h) (both-true (allFit t n)))
+
+pub sums-none : (t : List ℕ) → Sums t 0 0
+sums-none t = record { fits = λ _. sym (room-none t); long = λ e. absurd (never (sym (fit-none t) ∙ e)); few = omega arith }
+
+pub sums-more : (t : List ℕ) (n s r : ℕ) → Sums t n s → r ≡ shareBy (getD t n 0) → r ≤ 65537 → Sums t (n + 1) (s + r)
+sums-more t n s r u e h = go (decLe (getD t n 0) 16)
+  where
+    go : Dec (getD t n 0 ≤ 16) → Sums t (n + 1) (s + r)
+    go (yes a) =
+        let is : r ≡ shareOf (getD t n 0) = e ∙ simp (le-ltb _ _ a) in
+        record {
+          fits = λ f. ap₂ (λ (x y : ℕ). x + y) (u .fits (sym (fit-same t n a) ∙ f)) is ∙ sym (room-more t n);
+          long = λ f. omega (arith, u .long (sym (fit-same t n a) ∙ f));
+          few = omega (arith, u .few);
+        }
+    go (no a) =
+        let over : 16 < getD t n 0 = omega arith in
+        let is : r ≡ 65537 = e ∙ simp (lt-ltb _ _ over) in
+        record {
+          fits = λ f. absurd (never (sym f ∙ fit-false t (n + 1) n (omega arith) over));
+          long = λ f. omega arith;
+          few = omega (arith, u .few);
+        }
+
+pub sums-pass : (t : List ℕ) (n s : ℕ) → getD t n 0 ≡ 0 → Sums t n s → Sums t (n + 1) s
+sums-pass t n s z u =
+    let same = fit-same t n (omega arith) in
+    record { fits = λ f. u .fits (sym same ∙ f) ∙ sym (room-skip t n z); long = λ f. u .long (sym same ∙ f); few = omega (arith, u .few) }
+
+pub code-sums : (t : List ℕ) (s : ℕ) → Sums t (length t) s → isCode t ≡ both (leb s 65536) (ltb 0 s)
+code-sums t s u = go (allFit t (length t)) refl
+  where
+    go : (b : Bool) → allFit t (length t) ≡ b → isCode t ≡ both (leb s 65536) (ltb 0 s)
+    go true e = by-room t e ∙ ap (λ (x : ℕ). both (leb x 65536) (ltb 0 x)) (sym (u .fits e))
+    go false e = rw (e, lt-leb s 65536 (u .long e))
