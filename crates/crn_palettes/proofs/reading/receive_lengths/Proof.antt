@@ -7,9 +7,9 @@ use Rattle.crn_format.specs.Reading.{got, spot, fromBits}
 use Rattle.crn_format.specs.Unpacking.{lengthsOf}
 use Rattle.crn_symbol_codec.specs.Cursors.{place}
 use Rattle.crn_symbol_codec.specs.declared.Cursor.{Cursor}
-use Rattle.crn_static_huffman_data_model.specs.Receiving.{heldBy, Receives}
-use Rattle.crn_static_huffman_data_model.specs.declared.Received.{Received}
-use Rattle.crn_static_huffman_data_model.proofs.Telling.{said-got, said-refused}
+use Rattle.crn_code_tables.specs.Receiving.{heldBy, Receives}
+use Rattle.crn_code_tables.specs.declared.Received.{Received}
+use Rattle.crn_code_tables.proofs.Telling.{said-got, said-refused}
 use Rattle.crn_palettes.specs.Reaching.{Lengths}
 use Rattle.crn_palettes.specs.declared.reading.Sent.the-variants.{Table, Refused}
 use Rattle.crn_palettes.proofs.Fitting.{table-fits, count-fits, whole-long}
