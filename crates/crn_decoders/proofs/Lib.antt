@@ -1,3 +1,4 @@
 pub mod Parts
 pub mod Made
 pub mod Numbers
+pub mod Sized

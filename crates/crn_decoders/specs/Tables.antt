@@ -1,9 +1,10 @@
 -- The tables of a record as slices, and the decoder tables of a level: of which codes they are, and where they stand.
 use Prim.Native.Nat.{ℕ, _+_, _*_, _^_, _<_, _≤_}
 use mathlib.Core.Path.{_≡_}
-use mathlib.Core.Bool.{Bool, true}
+use mathlib.Core.Bool.{Bool, true, _&&_}
 use mathlib.Core.List.{List, [], _∷_}
 use lib.ListN.{length, take}
+use lib.Dec.{leb}
 use Rattle.crn_format.specs.Choice.{pick, both}
 use Rattle.crn_format.specs.Limits.{maxSymbols}
 use Rattle.crn_format.specs.Codes.{allFit}
@@ -49,6 +50,22 @@ pub record AllFair (c : Counts) (chunk colorEnds colorSels alphaEnds alphaSels :
   pub alphaE : Fair alphaEnds (c .«alpha_ends») room
   pub alphaS : Fair alphaSels (c .«alpha_sels») room
 
+-- none is for more than 1,024 symbols, as the code tests it
+abbrev pub allFew : Counts → Bool
+allFew c = (((leb (c .chunk) 1024 && leb (c .«color_ends») 1024) && leb (c .«color_sels») 1024) && leb (c .«alpha_ends») 1024) && leb (c .«alpha_sels») 1024
+
+-- the sizes for a level of so many columns and rows of blocks: a small level has small lookups, since large ones would take longer than its draws
+unfoldable pub sizesFor : Counts → ℕ → ℕ → Sizes
+sizesFor c columns rows =
+    pick (allFew c)
+    (pick (leb columns 16 && leb rows 16)
+    (sizes (pick (leb columns 4 && leb rows 4) 5 8) 288 1024)
+    (sizes 11 2080 1024))
+    (sizes 11 2080 8192)
+  where
+    sizes : ℕ → ℕ → ℕ → Sizes
+    sizes most words symbols = record { most = most; «lookup_step» = words; «sorted_step» = symbols }
+
 -- five tables of these sizes have room in so many words and so many symbols
 pub record Able (s : Sizes) (words symbols : ℕ) : Type 0 where
   pub some : 0 < s .most
@@ -75,3 +92,9 @@ codesBy alpha c chunk colorEnds colorSels alphaEnds alphaSels k =
 -- how many there are
 abbrev pub tablesIn : Bool → Bool → ℕ
 tablesIn color alpha = pick (both color alpha) 5 3
+
+-- the codes of a record's tables, by the numbers of the decoder tables
+abbrev pub codesOf : Bool → Tables → ℕ → List ℕ
+codesOf alpha t =
+    codesBy alpha (countsOf t) (t .«chunk_encoding» .lengths) (t .«color_endpoint_delta» .lengths) (t .«color_selector_delta» .lengths)
+    (t .«alpha_endpoint_delta» .lengths) (t .«alpha_selector_delta» .lengths)

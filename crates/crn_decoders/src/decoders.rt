@@ -5,13 +5,45 @@ ghost use mathlib.Core.Path.{_≡_};
 ghost use mathlib.Core.List.{List};
 ghost use Prim.Native.Nat.{ℕ, _+_, _<_};
 ghost use lib.ListN.{length, take};
-ghost use Rattle.crn_decoders.specs.Tables.{Fair, AllFair, Able, CodedTo, codesBy, tablesIn};
+ghost use Rattle.crn_decoders.specs.Tables.{Fair, AllFair, Able, CodedTo, allFew, sizesFor, codesBy, tablesIn};
 
 // How many first bits of a code are looked up, and how far apart two lookups are and the sorted symbols of two tables.
 pub struct Sizes {
     pub most: u64,
     pub lookup_step: usize,
     pub sorted_step: usize,
+}
+
+fn few(counts: Counts) -> bool
+    ensures { λ r. ⌜ r ≡ allFew counts ⌝ }
+{
+    (counts.chunk <= 1024)
+        & (counts.color_ends <= 1024)
+        & (counts.color_sels <= 1024)
+        & (counts.alpha_ends <= 1024)
+        & (counts.alpha_sels <= 1024)
+}
+
+// The sizes for a level of so many columns and rows of blocks, of whose tables no more is zeroed than is needed.
+pub fn sizes_for(counts: Counts, columns: usize, rows: usize) -> Sizes
+    ensures { λ r. ⌜ r ≡ sizesFor counts columns rows ⌝ }
+{
+    let mut s = Sizes {
+        most: 11,
+        lookup_step: 2080,
+        sorted_step: 8192,
+    };
+    if few(counts) {
+        s.sorted_step = 1024;
+        if (columns <= 16) & (rows <= 16) {
+            s.lookup_step = 288;
+            s.most = 8;
+            if (columns <= 4) & (rows <= 4) {
+                s.most = 5;
+            }
+        }
+    }
+    s
 }
 
 // Table number k, of the first `count` lengths. Those before it stay.

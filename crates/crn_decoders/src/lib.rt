@@ -5,5 +5,6 @@ mod planning; // the planes of a format
 
 pub use decoders::Sizes;
 pub use decoders::make_tables;
+pub use decoders::sizes_for;
 pub use planning::planes_of;
 pub use table_checks::tables_hold;

@@ -18,21 +18,18 @@ use Rattle.crn_drawing.specs.declared.Unpacked.{Unpacked}
 use Rattle.crn_decoders.specs.Tables.{Able, countsOf, CodedTo, codesBy, tablesIn}
 use Rattle.crn_decoders.specs.Planning.{planesBy, planesFor}
 use Rattle.crn_drawing.specs.Unpacks.{Unpacks}
-use Rattle.crn_drawing.specs.Levels.{Checked, endedBy}
+use Rattle.crn_drawing.specs.Levels.{Checked, codesIn, tablesFor, endedBy}
 use Rattle.crn_formats.specs.Lent.{lentOf}
 use Rattle.crn_formats.proofs.Limited.{Limited, limited}
-use Rattle.crn_drawing.proofs.Formats.{codesOf, chunk-code, planes-by, shades-by, bytes-by, served-by}
+use Rattle.crn_drawing.proofs.Formats.{chunk-code, planes-by, shades-by, bytes-by, served-by}
 use Rattle.crn_drawing.proofs.Reaching.{lent, reach-by}
 
 abbrev kindIn : Record → Kind
 kindIn r = kindOf (r .header .format)
 
-abbrev codesIn : Record → ℕ → List ℕ
-codesIn r = codesOf (hasAlpha (kindIn r)) (r .tables)
-
 -- the tables are made
 abbrev Ready : Record → Sizes → List ℕ → List ℕ → Type 0
-Ready r s lookup sorted = CodedTo (codesIn r) (tablesIn (hasColor (kindIn r)) (hasAlpha (kindIn r))) s lookup sorted
+Ready r s lookup sorted = CodedTo (codesIn r) (tablesFor (r .header)) s lookup sorted
 
 pub ready-by : (r : Record) {s : Sizes} {lookup sorted : List ℕ} {color alpha : Bool} {counts : Counts} → color ≡ hasColor (kindIn r) → alpha ≡ hasAlpha (kindIn r)
     → counts ≡ countsOf (r .tables)

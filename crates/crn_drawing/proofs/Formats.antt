@@ -17,15 +17,9 @@ use Rattle.crn_formats.proofs.ByFormat.{by-format}
 use Rattle.crn_chunks.specs.Meaning.{row, planeOf, planes, Served}
 use Rattle.crn_chunk_blocks.specs.Blocks.{shadeOf}
 use Rattle.crn_decoders.specs.declared.decoders.Sizes.{Sizes}
-use Rattle.crn_decoders.specs.Tables.{countsOf, Able, CodedTo, codesBy, tablesIn}
+use Rattle.crn_decoders.specs.Tables.{Able, CodedTo, codesBy, codesOf, tablesIn}
 use Rattle.crn_decoders.specs.Planning.{planesBy}
 use Rattle.crn_formats.proofs.Limited.{Limited}
-
--- the codes of a record's tables, by the numbers of the decoder tables
-abbrev pub codesOf : Bool → Tables → ℕ → List ℕ
-codesOf alpha t =
-    codesBy alpha (countsOf t) (t .«chunk_encoding» .lengths) (t .«color_endpoint_delta» .lengths) (t .«color_selector_delta» .lengths)
-    (t .«alpha_endpoint_delta» .lengths) (t .«alpha_selector_delta» .lengths)
 
 pub chunk-code : (alpha : Bool) (t : Tables) → codesOf alpha t 0 ≡ lengthsOf (t .«chunk_encoding»)
 unfolding codesBy nthList

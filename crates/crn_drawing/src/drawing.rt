@@ -8,6 +8,7 @@ use crn_chunks::Stream;
 use crn_decoders::Sizes;
 use crn_decoders::make_tables;
 use crn_decoders::planes_of;
+use crn_decoders::sizes_for;
 use crn_format::Grid;
 use crn_format::Header;
 use crn_formats::Counts;
@@ -17,9 +18,8 @@ use crn_symbol_codec::start;
 use crn_unpacker::Went;
 use crn_unpacker::paint;
 ghost use mathlib.Core.Path.{_≡_};
-ghost use mathlib.Core.Bool.{true};
 ghost use mathlib.Core.List.{List};
-ghost use Prim.Native.Nat.{ℕ, _+_, _^_, _≤_, _<_};
+ghost use Prim.Native.Nat.{ℕ, _≤_};
 ghost use lib.ListN.{length};
 ghost use Rattle.crn_format.specs.Header.{kindOf};
 ghost use Rattle.crn_format.specs.Unpacking.{cutoutCount, drawnLevel};
@@ -28,7 +28,7 @@ ghost use Rattle.crn_chunks.specs.Meaning.{Coded};
 ghost use Rattle.crn_blocks.specs.Sheet.{Room, standing};
 ghost use Rattle.crn_unpacker.specs.Going.{given, Fit};
 ghost use Rattle.crn_drawing.specs.Unpacks.{Unpacks};
-ghost use Rattle.crn_decoders.specs.Tables.{tablesBy, recordBy, Few, Long, AllFair, Able};
+ghost use Rattle.crn_decoders.specs.Tables.{tablesBy, recordBy, Long, AllFair, Able};
 ghost use Rattle.crn_drawing.specs.Levels.{stopOf, Refuses, Finishes, Checked, endedBy};
 
 // The refusal of an answer, for the `else` of a `let`; 0 where there is none.
@@ -82,7 +82,7 @@ fn finish(left: u64, all: u64, format: u32, g: Grid, budget: &mut u64, dst: &[u8
 }
 
 // The chunks, by decoder tables that are made.
-fn draw_chunks(
+pub fn draw_chunks(
     format: u32,
     ps: Planes,
     lookup: &[u32],
@@ -179,27 +179,6 @@ fn draw_with<'a>(
     )
 }
 
-fn few(counts: Counts) -> bool
-    ensures { λ r. ⌜ (r ≡ true → Few counts 1024) ⌝ }
-{
-    (counts.chunk <= 1024)
-        & (counts.color_ends <= 1024)
-        & (counts.color_sels <= 1024)
-        & (counts.alpha_ends <= 1024)
-        & (counts.alpha_sels <= 1024)
-}
-
-// How many first bits are looked up in a grid of 16 x 16 blocks at most: few where a face has four chunks at most, since a large lookup
-// would take longer than the draws.
-fn few_bits(g: Grid) -> u64
-    ensures { λ r. ⌜ (0 < r) × (r ≤ 13) × (32 + 2 ^ r ≤ 288) ⌝ }
-{
-    if (g.columns <= 4) & (g.rows <= 4) {
-        return 5;
-    }
-    8
-}
-
 // A level whose checks have passed. No more is zeroed than its tables need: a small grid has small lookups, few symbols little room for them.
 pub fn draw_level<'a>(
     h: Header,
@@ -222,15 +201,11 @@ pub fn draw_level<'a>(
     requires { ⌜ Long (tablesBy counts (now chunk) (now «color_ends») (now «color_sels») (now «alpha_ends») (now «alpha_sels»)) ⌝ }
     ensures { λ r. ⌜ Unpacks (drawnLevel (recordBy h counts (now (chunk .entry)) (now («color_ends» .entry)) (now («color_sels» .entry)) (now («alpha_ends» .entry)) (now («alpha_sels» .entry))) (now (seg .entry)) (lentOf (now («color_endpoints» .entry)) (now («color_selectors» .entry)) (now («alpha_endpoints» .entry)) (now («alpha_selectors» .entry))) g (now (budget .entry)) (now (dst .entry))) (now (budget .entry)) (now (budget .exit)) (now (dst .exit)) r ⌝ }
 {
-    if few(counts) {
+    let s = sizes_for(counts, g.columns, g.rows);
+    if s.sorted_step <= 1024 {
         let mut sorted = [0u16; 5120];
-        if (g.columns <= 16) & (g.rows <= 16) {
+        if s.lookup_step <= 288 {
             let mut lookup = [0u32; 1440];
-            let s = Sizes {
-                most: few_bits(g),
-                lookup_step: 288,
-                sorted_step: 1024,
-            };
             return draw_with(
                 h,
                 counts,
@@ -253,11 +228,6 @@ pub fn draw_level<'a>(
             );
         }
         let mut lookup = [0u32; 10400];
-        let s = Sizes {
-            most: 11,
-            lookup_step: 2080,
-            sorted_step: 1024,
-        };
         return draw_with(
             h,
             counts,
@@ -281,11 +251,6 @@ pub fn draw_level<'a>(
     }
     let mut lookup = [0u32; 10400];
     let mut sorted = [0u16; 40960];
-    let s = Sizes {
-        most: 11,
-        lookup_step: 2080,
-        sorted_step: 8192,
-    };
     draw_with(
         h,
         counts,

@@ -4,3 +4,4 @@ mod unpacking;
 pub use crn_drawing::Unpacked;
 pub use unpacking::unpack_level;
 pub use unpacking::unpack_level_by;
+pub use unpacking::unpack_made;

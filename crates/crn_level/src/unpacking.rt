@@ -1,8 +1,11 @@
 // Unpacking a level: "2, 6, 10, 4, 5, 11, 12, all before the first draw and with the destination untouched, then the stream"
 // (document 01, Refusal numbers).
 use crn_bounds::within_limits;
+use crn_decoders::Sizes;
+use crn_decoders::planes_of;
 use crn_decoders::tables_hold;
 use crn_drawing::Unpacked;
+use crn_drawing::draw_chunks;
 use crn_drawing::draw_level;
 use crn_format::Grid;
 use crn_format::Header;
@@ -23,9 +26,11 @@ ghost use Prim.Native.Nat.{_<_};
 ghost use lib.ListN.{length};
 ghost use Rattle.crn_format.specs.Limits.{tooLong};
 ghost use Rattle.crn_format.specs.Unpacking.{levelStands, levelSegment, gridOf, unpacking as «unpackingOf»};
+ghost use Rattle.crn_format.specs.declared.Tables.{Tables};
 ghost use Rattle.crn_formats.specs.Lent.{lentOf};
 ghost use Rattle.crn_formats.specs.Records.{recordBy};
 ghost use Rattle.crn_drawing.specs.Unpacks.{Unpacks};
+ghost use Rattle.crn_drawing.specs.Levels.{recordWith, Made, Tabled};
 ghost use Rattle.crn_level.specs.Refusals.{firstFailed, refusalBy};
 
 // The refusal of seven tests, 0 where each holds: the first that fails decides.
@@ -190,7 +195,64 @@ pub fn unpack_level_by<'a>(
     )
 }
 
-// The same of a record that is handed over whole.
+// The same by decoder tables that are made of the record's, which hold.
+pub fn unpack_made(
+    header: Header,
+    s: Sizes,
+    lookup: &[u32],
+    sorted: &[u16],
+    file: &[u8],
+    color_endpoints: &[u32],
+    color_selectors: &[u32],
+    alpha_endpoints: &[u16],
+    alpha_selectors: &[u16],
+    level: u32,
+    pitch: usize,
+    distance: usize,
+    budget: &mut u64,
+    dst: &mut [u8],
+) -> Unpacked
+    requires { ⌜ Tabled header s (now lookup) (now sorted) ⌝ }
+    ensures { λ r. ⌜ ((t : Tables) → Made (recordWith header t) s (now (lookup .entry)) (now (sorted .entry)) → Unpacks («unpackingOf» (recordWith header t) (now (file .entry)) (lentOf (now («color_endpoints» .entry)) (now («color_selectors» .entry)) (now («alpha_endpoints» .entry)) (now («alpha_selectors» .entry))) level pitch distance (now (budget .entry)) (now (dst .entry))) (now (budget .entry)) (now (budget .exit)) (now (dst .exit)) r) ⌝ }
+{
+    let failed = refusal(
+        header,
+        true,
+        file,
+        color_endpoints,
+        color_selectors,
+        alpha_endpoints,
+        alpha_selectors,
+        level,
+        pitch,
+        distance,
+        dst.len(),
+    );
+    if failed != 0 {
+        return Unpacked::Refused {
+            number: failed,
+            symbols: 0,
+            at: 0,
+        };
+    }
+    let g = grid_of(header, level, pitch, distance);
+    draw_chunks(
+        header.format,
+        planes_of(header, s),
+        lookup,
+        sorted,
+        segment_of(file, header, level),
+        color_endpoints,
+        color_selectors,
+        alpha_endpoints,
+        alpha_selectors,
+        g,
+        budget,
+        dst,
+    )
+}
+
+// The level of a record that is handed over whole.
 pub fn unpack_level(
     record: Record,
     file: &[u8],

@@ -2,6 +2,7 @@
 use Rattle.crn_format.specs.declared.Tables.{Tables}
 use Rattle.crn_decoders.specs.Tables.{tablesBy}
 use Rattle.crn_decoders.proofs.Made.{all-fair, at-most}
+use Rattle.crn_decoders.proofs.Sized.{Sized, sized, able-in}
 use borrow.Author.Needs.{needs}
 use Rattle.crn_drawing.proofs.drawing.draw_level.Statement.{statement}
 use Rattle.crn_drawing.proofs.drawing.draw_level.Tie as tie
@@ -10,11 +11,11 @@ abbrev tables : tie.Start → Tables
 tables s =
     tablesBy (s .args .counts) (s .args .chunk .now) (s .args .«color-ends» .now) (s .args .«color-sels» .now) (s .args .«alpha-ends» .now) (s .args .«alpha-sels» .now)
 
-few-requires : tie.Need-few-requires
-few-requires c κs = search needs
+chosen : (c : tie.After-sizes-for) → Sized (c .before .before .before .before .before .before .before .before .before .before .before .before .args .counts) (c .sizes-for .result)
+chosen c = sized _ _ _ (c .sizes-for .ensures)
 
-few-bits-requires : tie.Need-few-bits-requires
-few-bits-requires c κs = search needs
+sizes-for-requires : tie.Need-sizes-for-requires
+sizes-for-requires c κs = search needs
 
 slice-aggregate-draw-with : tie.Need-slice-aggregate-draw-with
 slice-aggregate-draw-with c = search needs
@@ -24,8 +25,9 @@ slice-aggregate-draw-with-2 c = search needs
 
 draw-with-requires : tie.Need-draw-with-requires
 draw-with-requires c κs =
-    let s = c .before .before .before .before .before .before .before .before .before .before .before .before .before .before .before .before .before .before .before .before .before in
-    (s .pre .0, (all-fair (tables s) 1024 (s .pre .1) (s .pre .0 .tables) (c .before .before .before .before .before .before .before .before .before .few .ensures (c .before .before .before .before .before .before .before .before .if1 .taken)), search needs))
+    let s = c .before .before .before .before .before .before .before .before .before .before .before .before .before .before .before .before .before .before .before .before in
+    let z = chosen (c .before .before .before .before .before .before .before .before) in
+    (s .pre .0, (all-fair (tables s) _ (s .pre .1) (s .pre .0 .tables) (z .room (at-most (tables s) (s .pre .0 .tables))), able-in 288 1024 z (c .before .before .before .before .if2 .taken) (c .before .before .before .before .before .before .if1 .taken)))
 
 same-length : tie.Need-same-length
 same-length c = search needs
@@ -42,7 +44,8 @@ slice-aggregate-draw-with-4 c = search needs
 draw-with-requires-2 : tie.Need-draw-with-requires-2
 draw-with-requires-2 c κs =
     let s = c .before .before .before .before .before .before .before .before .before .before .before .before .before .before .before .before .before .before .before .before in
-    (s .pre .0, (all-fair (tables s) 1024 (s .pre .1) (s .pre .0 .tables) (c .before .before .before .before .before .before .before .before .few .ensures (c .before .before .before .before .before .before .before .if1 .taken)), search needs))
+    let z = chosen (c .before .before .before .before .before .before .before .before) in
+    (s .pre .0, (all-fair (tables s) _ (s .pre .1) (s .pre .0 .tables) (z .room (at-most (tables s) (s .pre .0 .tables))), able-in 2080 1024 z (z .words) (c .before .before .before .before .before .before .if1 .taken)))
 
 same-length-2 : tie.Need-same-length-2
 same-length-2 c = search needs
@@ -58,8 +61,9 @@ slice-aggregate-draw-with-6 c = search needs
 
 draw-with-requires-3 : tie.Need-draw-with-requires-3
 draw-with-requires-3 c κs =
-    let s = c .before .before .before .before .before .before .before .before .before .before .before .before .before .before .before .before .before in
-    (s .pre .0, (all-fair (tables s) 8192 (s .pre .1) (s .pre .0 .tables) (at-most (tables s) (s .pre .0 .tables)), search needs))
+    let s = c .before .before .before .before .before .before .before .before .before .before .before .before .before .before .before .before .before .before in
+    let z = chosen (c .before .before .before .before .before .before) in
+    (s .pre .0, (all-fair (tables s) _ (s .pre .1) (s .pre .0 .tables) (z .room (at-most (tables s) (s .pre .0 .tables))), able-in 2080 8192 z (z .words) (z .symbols)))
 
 same-length-3 : tie.Need-same-length-3
 same-length-3 c = search needs
@@ -71,8 +75,7 @@ pub draw-level-spec : {M : Type 1} → statement M
 draw-level-spec =
     tie.close
     (tie.spec
-    few-requires
-    few-bits-requires
+    sizes-for-requires
     slice-aggregate-draw-with
     slice-aggregate-draw-with-2
     draw-with-requires
