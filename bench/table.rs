@@ -33,17 +33,17 @@ fn rust_file(file: &[u8], sides: (u32, u32), levels: u32, bytes: u32) {
 
 fn proved_file(file: &[u8]) {
     let crn = Crn::open(black_box(file)).expect("a file is refused");
-    for level in 0..crn.levels() {
-        drop(black_box(crn.unpack_level(level).expect("a level is refused")));
-    }
+    drop(black_box(crn.unpack_levels(0).expect("a level is refused")));
 }
 
 // Both give the same blocks of all levels, byte for byte; else nothing is measured.
 fn compare(name: &str, file: &[u8], bytes: u32) {
     let (mut r, crn) = (rust(file), Crn::open(file).expect("a file is refused"));
-    for level in 0..crn.levels() {
+    let levels = crn.unpack_levels(0).expect("a level is refused");
+    for (level, blocks) in (0..).zip(levels.each()) {
         let ours = crn.unpack_level(level).expect("a level is refused");
-        assert!(ours.blocks == rust_level(&mut r, (crn.width(), crn.height()), level, bytes), "{name}, level {level}: other blocks");
+        let rust = rust_level(&mut r, (crn.width(), crn.height()), level, bytes);
+        assert!(ours.blocks == rust && blocks == rust, "{name}, level {level}: other blocks");
     }
 }
 

@@ -128,6 +128,30 @@ struct crunch_answer crunch_unpack_level_parts(
     const uint16_t *alpha_endpoints, size_t alpha_endpoints_len, const uint16_t *alpha_selectors, size_t alpha_selectors_len,
     uint32_t level, size_t pitch, size_t distance, uint64_t *budget, uint8_t *dst, size_t dst_len);
 
+/* The levels from `first` on to the last, each with its rows and faces close together (crunch_level_sizes), and its blocks where those of the level before end: a small
+ * file's sooner than one by one. How many went through, the symbols drawn in all, the cut-outs of those that went through; and the refusal of the level after them with
+ * its bit, 0 where each went through. That level's blocks are as crunch_unpack_level leaves them, and later bytes are untouched. */
+struct crunch_several {
+    uint32_t refusal;
+    size_t at;
+    uint32_t levels;
+    uint64_t symbols, cutouts;
+};
+static inline struct crunch_several crunch_unpack_levels(
+    const struct crunch_record *record, const uint8_t *file, size_t file_len,
+    const uint32_t *color_endpoints, size_t color_endpoints_len, const uint32_t *color_selectors, size_t color_selectors_len,
+    const uint16_t *alpha_endpoints, size_t alpha_endpoints_len, const uint16_t *alpha_selectors, size_t alpha_selectors_len,
+    uint32_t first, uint64_t *budget, uint8_t *dst, size_t dst_len);
+
+/* The same by the record's parts. */
+struct crunch_several crunch_unpack_levels_parts(
+    struct crunch_header header, struct crunch_counts counts, const uint8_t *chunk_encoding,
+    const uint8_t *color_endpoint_delta, const uint8_t *color_selector_delta, const uint8_t *alpha_endpoint_delta, const uint8_t *alpha_selector_delta,
+    const uint8_t *file, size_t file_len,
+    const uint32_t *color_endpoints, size_t color_endpoints_len, const uint32_t *color_selectors, size_t color_selectors_len,
+    const uint16_t *alpha_endpoints, size_t alpha_endpoints_len, const uint16_t *alpha_selectors, size_t alpha_selectors_len,
+    uint32_t first, uint64_t *budget, uint8_t *dst, size_t dst_len);
+
 /* ---- a record by its parts: nothing of its 41,000 bytes is copied but the header and the counts */
 
 static inline struct crunch_opened crunch_open(
@@ -149,22 +173,41 @@ static inline struct crunch_opened crunch_open(
     return answer;
 }
 
+static inline struct crunch_counts crunch_counts_of(const struct crunch_record *record)
+{
+    struct crunch_counts counts = {
+        record->tables.chunk_encoding.count, record->tables.color_endpoint_delta.count, record->tables.color_selector_delta.count,
+        record->tables.alpha_endpoint_delta.count, record->tables.alpha_selector_delta.count,
+    };
+    return counts;
+}
+
 static inline struct crunch_answer crunch_unpack_level(
     const struct crunch_record *record, const uint8_t *file, size_t file_len,
     const uint32_t *color_endpoints, size_t color_endpoints_len, const uint32_t *color_selectors, size_t color_selectors_len,
     const uint16_t *alpha_endpoints, size_t alpha_endpoints_len, const uint16_t *alpha_selectors, size_t alpha_selectors_len,
     uint32_t level, size_t pitch, size_t distance, uint64_t *budget, uint8_t *dst, size_t dst_len)
 {
-    struct crunch_counts counts = {
-        record->tables.chunk_encoding.count, record->tables.color_endpoint_delta.count, record->tables.color_selector_delta.count,
-        record->tables.alpha_endpoint_delta.count, record->tables.alpha_selector_delta.count,
-    };
     return crunch_unpack_level_parts(
-        record->header, counts, record->tables.chunk_encoding.lengths,
+        record->header, crunch_counts_of(record), record->tables.chunk_encoding.lengths,
         record->tables.color_endpoint_delta.lengths, record->tables.color_selector_delta.lengths,
         record->tables.alpha_endpoint_delta.lengths, record->tables.alpha_selector_delta.lengths,
         file, file_len, color_endpoints, color_endpoints_len, color_selectors, color_selectors_len, alpha_endpoints, alpha_endpoints_len, alpha_selectors, alpha_selectors_len,
         level, pitch, distance, budget, dst, dst_len);
+}
+
+static inline struct crunch_several crunch_unpack_levels(
+    const struct crunch_record *record, const uint8_t *file, size_t file_len,
+    const uint32_t *color_endpoints, size_t color_endpoints_len, const uint32_t *color_selectors, size_t color_selectors_len,
+    const uint16_t *alpha_endpoints, size_t alpha_endpoints_len, const uint16_t *alpha_selectors, size_t alpha_selectors_len,
+    uint32_t first, uint64_t *budget, uint8_t *dst, size_t dst_len)
+{
+    return crunch_unpack_levels_parts(
+        record->header, crunch_counts_of(record), record->tables.chunk_encoding.lengths,
+        record->tables.color_endpoint_delta.lengths, record->tables.color_selector_delta.lengths,
+        record->tables.alpha_endpoint_delta.lengths, record->tables.alpha_selector_delta.lengths,
+        file, file_len, color_endpoints, color_endpoints_len, color_selectors, color_selectors_len, alpha_endpoints, alpha_endpoints_len, alpha_selectors, alpha_selectors_len,
+        first, budget, dst, dst_len);
 }
 
 #ifdef __cplusplus

@@ -80,6 +80,39 @@ impl Level {
     }
 }
 
+/// Levels unpacked in one call, one after another.
+#[derive(Clone, Debug, PartialEq, Eq)]
+pub struct Levels {
+    /// The blocks' bytes, level after level; of a level face after face.
+    pub blocks: Vec<u8>,
+    /// Their format.
+    pub format: Format,
+    /// Faces: 1, or 6 of a cube map.
+    pub faces: u32,
+    /// Each level's sizes.
+    pub sizes: Vec<raw::LevelSizes>,
+    /// Symbols and cut-outs of all.
+    pub counts: Counts,
+}
+
+impl Levels {
+    /// The blocks of each level.
+    ///
+    /// ```
+    /// # let file = std::fs::read("../samples/dxt1.crn")?;
+    /// let levels = crunch_proved::Crn::open(&file)?.unpack_levels(4)?;
+    /// assert_eq!(levels.each().map(|blocks| blocks.len()).collect::<Vec<_>>(), [8, 8, 8]);
+    /// # Ok::<(), Box<dyn std::error::Error>>(())
+    /// ```
+    pub fn each(&self) -> impl Iterator<Item = &[u8]> {
+        let mut from = 0;
+        self.sizes.iter().map(move |sizes| {
+            from += sizes.bytes;
+            &self.blocks[from - sizes.bytes..from]
+        })
+    }
+}
+
 impl<'a> Crn<'a> {
     /// Opens a file: its header, its code tables and its palettes.
     ///
@@ -186,6 +219,26 @@ impl<'a> Crn<'a> {
         let (mut blocks, mut budget) = (vec![0; sizes.bytes], sizes.symbols);
         let counts = self.unpack_level_into(level, sizes.pitch, sizes.distance, &mut budget, &mut blocks)?;
         Ok(Level { blocks, format: self.format, faces: self.faces(), columns: sizes.columns, rows: sizes.rows, counts })
+    }
+
+    /// Unpacks the levels from `first` on to the last: a small file's sooner than one by one, since what they are read by is made once.
+    ///
+    /// ```
+    /// # let file = std::fs::read("../samples/cube.crn")?;
+    /// let crn = crunch_proved::Crn::open(&file)?;
+    /// let levels = crn.unpack_levels(0)?;
+    /// assert_eq!(levels.sizes.len(), 5);
+    /// assert!(levels.each().eq((0..5).map(|n| crn.unpack_level(n).unwrap().blocks)));
+    /// assert_eq!(crn.unpack_levels(5), Err(crunch_proved::Refusal::Level));
+    /// # Ok::<(), Box<dyn std::error::Error>>(())
+    /// ```
+    pub fn unpack_levels(&self, first: u32) -> Result<Levels, Refusal> {
+        let last = self.levels().saturating_sub(1).max(first);
+        let sizes = (first..=last).map(|level| self.level_sizes(level)).collect::<Result<Vec<_>, _>>()?;
+        let (mut blocks, mut budget) = (vec![0; sizes.iter().map(|s| s.bytes).sum()], sizes.iter().map(|s| s.symbols).sum());
+        let answer = raw::unpack_levels(&self.record, self.file, &self.palettes(), first, &mut budget, &mut blocks);
+        let counts = Counts { symbols: answer.symbols, cutouts: answer.cutouts };
+        Refusal::of(answer.refusal, answer.at).map_or(Ok(Levels { blocks, format: self.format, faces: self.faces(), sizes, counts }), Err)
     }
 
     /// Unpacks a level, all faces, into `dst`: face f starts at f times the distance, and rows of blocks are a pitch apart, both in bytes. Each symbol drawn is

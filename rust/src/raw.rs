@@ -111,6 +111,18 @@ pub struct Answer {
     pub cutouts: u64,
 }
 
+/// What [`unpack_levels`] answers: how many levels went through, the symbols drawn in all, the cut-outs of the levels that went through; and the refusal of the
+/// level after them with the bit that it names, 0 where each went through.
+#[repr(C)]
+#[derive(Clone, Copy, Debug, PartialEq, Eq)]
+pub struct Several {
+    pub refusal: u32,
+    pub at: usize,
+    pub levels: u32,
+    pub symbols: u64,
+    pub cutouts: u64,
+}
+
 /// How many words the buffer of each palette has to hold.
 #[repr(C)]
 #[derive(Clone, Copy, Debug, PartialEq, Eq)]
@@ -173,6 +185,13 @@ extern "C" {
         alpha_endpoints: *const u16, alpha_endpoints_len: usize, alpha_selectors: *const u16, alpha_selectors_len: usize,
         level: u32, pitch: usize, distance: usize, budget: *mut u64, dst: *mut u8, dst_len: usize,
     ) -> Answer;
+    fn crunch_unpack_levels_parts(
+        header: Header, counts: TableCounts, chunk_encoding: *const Lengths, color_endpoint_delta: *const Lengths, color_selector_delta: *const Lengths,
+        alpha_endpoint_delta: *const Lengths, alpha_selector_delta: *const Lengths, file: *const u8, file_len: usize,
+        color_endpoints: *const u32, color_endpoints_len: usize, color_selectors: *const u32, color_selectors_len: usize,
+        alpha_endpoints: *const u16, alpha_endpoints_len: usize, alpha_selectors: *const u16, alpha_selectors_len: usize,
+        first: u32, budget: *mut u64, dst: *mut u8, dst_len: usize,
+    ) -> Several;
 }
 
 /// The lengths of a table.
@@ -183,6 +202,18 @@ impl Record {
     pub fn empty() -> Box<Record> {
         // SAFETY: numbers and arrays of them, which may be zero.
         unsafe { Box::new_zeroed().assume_init() }
+    }
+}
+
+impl Tables {
+    fn counts(&self) -> TableCounts {
+        TableCounts {
+            chunk_encoding: self.chunk_encoding.count,
+            color_endpoint_delta: self.color_endpoint_delta.count,
+            color_selector_delta: self.color_selector_delta.count,
+            alpha_endpoint_delta: self.alpha_endpoint_delta.count,
+            alpha_selector_delta: self.alpha_selector_delta.count,
+        }
     }
 }
 
@@ -252,18 +283,11 @@ pub fn unpack_level(
 ) -> Answer {
     let Palettes { color_endpoints: ce, color_selectors: cs, alpha_endpoints: ae, alpha_selectors: al } = *palettes;
     let t = &record.tables;
-    let counts = TableCounts {
-        chunk_encoding: t.chunk_encoding.count,
-        color_endpoint_delta: t.color_endpoint_delta.count,
-        color_selector_delta: t.color_selector_delta.count,
-        alpha_endpoint_delta: t.alpha_endpoint_delta.count,
-        alpha_selector_delta: t.alpha_selector_delta.count,
-    };
     // SAFETY: as in `open`.
     unsafe {
         crunch_unpack_level_parts(
             record.header,
-            counts,
+            t.counts(),
             &t.chunk_encoding.lengths,
             &t.color_endpoint_delta.lengths,
             &t.color_selector_delta.lengths,
@@ -282,6 +306,39 @@ pub fn unpack_level(
             level,
             pitch,
             distance,
+            budget,
+            dst.as_mut_ptr(),
+            dst.len(),
+        )
+    }
+}
+
+/// Unpacks the levels from `first` on to the last, each with its rows and faces close together ([`level_sizes`]), and its blocks where those of the level before end.
+/// The first refusal stops: levels before it stay, its own blocks are as [`unpack_level`] leaves them, later bytes are untouched.
+pub fn unpack_levels(record: &Record, file: &[u8], palettes: &Palettes<'_>, first: u32, budget: &mut u64, dst: &mut [u8]) -> Several {
+    let Palettes { color_endpoints: ce, color_selectors: cs, alpha_endpoints: ae, alpha_selectors: al } = *palettes;
+    let t = &record.tables;
+    // SAFETY: as in `open`.
+    unsafe {
+        crunch_unpack_levels_parts(
+            record.header,
+            t.counts(),
+            &t.chunk_encoding.lengths,
+            &t.color_endpoint_delta.lengths,
+            &t.color_selector_delta.lengths,
+            &t.alpha_endpoint_delta.lengths,
+            &t.alpha_selector_delta.lengths,
+            file.as_ptr(),
+            file.len(),
+            ce.as_ptr(),
+            ce.len(),
+            cs.as_ptr(),
+            cs.len(),
+            ae.as_ptr(),
+            ae.len(),
+            al.as_ptr(),
+            al.len(),
+            first,
             budget,
             dst.as_mut_ptr(),
             dst.len(),

@@ -30,6 +30,16 @@ static void told(const char *name)
     printf("opened %u %zu\n", o.refusal, o.at);
     printf("level %u %zu %" PRIu64 " %" PRIu64 " %" PRIu64 "\n", a.refusal, a.at, a.symbols, a.cutouts, budget);
     printf("blocks %" PRIu64 "\n", hash);
+    size_t bytes = 0;
+    for (uint32_t level = 1; level < h.levels; level++)
+        bytes += crunch_level_sizes(record.header, level).bytes;
+    budget = 1 << 20;
+    struct crunch_several all = crunch_unpack_levels(&record, file, size, ce, w.color_endpoints, cs, w.color_selectors, ae, w.alpha_endpoints, al, w.alpha_selectors,
+                                                     1, &budget, blocks, bytes);
+    hash = 0xcbf29ce484222325u;
+    for (size_t i = 0; i < bytes; i++)
+        hash = (hash ^ blocks[i]) * 0x100000001b3u;
+    printf("levels %u %zu %u %" PRIu64 " %" PRIu64 " %" PRIu64 "\n", all.refusal, all.at, all.levels, all.symbols, all.cutouts, hash);
 }
 
 int main(void)
@@ -44,6 +54,8 @@ int main(void)
     printf("counts %zu %zu\n", sizeof(struct crunch_counts), offsetof(struct crunch_counts, alpha_selector_delta));
     printf("answer %zu %zu %zu %zu\n", sizeof(struct crunch_answer), offsetof(struct crunch_answer, at), offsetof(struct crunch_answer, symbols),
            offsetof(struct crunch_answer, cutouts));
+    printf("several %zu %zu %zu %zu\n", sizeof(struct crunch_several), offsetof(struct crunch_several, at), offsetof(struct crunch_several, levels),
+           offsetof(struct crunch_several, cutouts));
     printf("words %zu %zu\n", sizeof(struct crunch_palette_words), offsetof(struct crunch_palette_words, alpha_selectors));
     printf("sizes %zu %zu %zu\n", sizeof(struct crunch_level_sizes), offsetof(struct crunch_level_sizes, block_bytes), offsetof(struct crunch_level_sizes, symbols));
     told("cube.crn");

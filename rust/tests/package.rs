@@ -61,6 +61,50 @@ fn every_refusal_of_a_call_has_its_number_and_its_sentence() {
     assert_eq!(Crn::open(&past).unwrap_err(), Refusal::Segment);
 }
 
+#[test]
+fn levels_of_one_call_are_those_of_one_each() {
+    for name in names(&root("samples")).iter().filter(|n| n.ends_with(".crn")) {
+        let file = sample(name);
+        let crn = Crn::open(&file).unwrap();
+        for first in 0..crn.levels() {
+            let (levels, single) = (crn.unpack_levels(first).unwrap(), (first..crn.levels()).map(|n| crn.unpack_level(n).unwrap()).collect::<Vec<_>>());
+            assert!(levels.each().eq(single.iter().map(|level| &level.blocks[..])), "{name} {first}");
+            assert!(levels.sizes.iter().map(|s| (s.columns, s.rows)).eq(single.iter().map(|level| (level.columns, level.rows))));
+            let sums = single.iter().fold((0, 0), |(s, c), level| (s + level.counts.symbols, c + level.counts.cutouts));
+            assert_eq!((levels.counts.symbols, levels.counts.cutouts), sums);
+        }
+        assert_eq!(crn.unpack_levels(crn.levels()), Err(Refusal::Level));
+        assert_eq!(crn.unpack_levels(u32::MAX), Err(Refusal::Level));
+    }
+}
+
+#[test]
+fn a_refused_level_stops_those_after_it() {
+    let file = sample("dxt1.crn");
+    let crn = Crn::open(&file).unwrap();
+    let (mut record, mut dst) = (raw::Record::empty(), vec![7; 2048 + 512 + 128]);
+    let words = raw::palette_words(crn.header());
+    let (mut ce, mut cs) = (vec![0; words.color_endpoints], vec![0; words.color_selectors]);
+    raw::open(
+        &file,
+        &mut raw::PalettesMut { color_endpoints: &mut ce, color_selectors: &mut cs, alpha_endpoints: &mut [], alpha_selectors: &mut [] },
+        &mut record,
+    );
+    let first = crn.unpack_level(0).unwrap();
+    // a symbol more than the first level draws: the second is refused, its blocks are zero, and what follows is untouched
+    let mut budget = first.counts.symbols + 1;
+    let answer = raw::unpack_levels(&record, &file, &crn.palettes(), 0, &mut budget, &mut dst);
+    assert_eq!((answer.refusal, answer.levels, answer.symbols, answer.cutouts, budget), (15, 1, first.counts.symbols + 1, first.counts.cutouts, 0));
+    assert!(dst[..2048] == first.blocks && dst[2048..2560].iter().all(|b| *b == 0) && dst[2560..].iter().all(|b| *b == 7));
+    // a destination for the first level and not for the second
+    let mut budget = 9999;
+    let answer = raw::unpack_levels(&record, &file, &crn.palettes(), 0, &mut budget, &mut dst[..2559]);
+    assert_eq!((answer.refusal, answer.at, answer.levels, answer.symbols, budget), (12, 0, 1, first.counts.symbols, 9999 - first.counts.symbols));
+    let mut cut = record.clone();
+    cut.tables.chunk_encoding.lengths[0] = 17;
+    assert_eq!(raw::unpack_levels(&cut, &file, &crn.palettes(), 0, &mut budget, &mut dst).refusal, 6);
+}
+
 /// The largest level there is: six faces of 4,096 by 4,096 pixels, every code one bit, all of them 0.
 #[test]
 fn the_largest_level_fits_into_the_stack_of_a_thread() {

@@ -79,6 +79,7 @@ fn the_c_header_is_the_archives() {
     );
     line("counts", &[size_of::<raw::TableCounts>(), offset_of!(raw::TableCounts, alpha_selector_delta)]);
     line("answer", &[size_of::<raw::Answer>(), offset_of!(raw::Answer, at), offset_of!(raw::Answer, symbols), offset_of!(raw::Answer, cutouts)]);
+    line("several", &[size_of::<raw::Several>(), offset_of!(raw::Several, at), offset_of!(raw::Several, levels), offset_of!(raw::Several, cutouts)]);
     line("words", &[size_of::<raw::PaletteWords>(), offset_of!(raw::PaletteWords, alpha_selectors)]);
     line("sizes", &[size_of::<raw::LevelSizes>(), offset_of!(raw::LevelSizes, block_bytes), offset_of!(raw::LevelSizes, symbols)]);
     for name in ["cube.crn", "dxt5.crn"] {
@@ -91,6 +92,8 @@ fn the_c_header_is_the_archives() {
         line("opened", &[0, 0]);
         line("level", &[0, 0, level.counts.symbols as usize, level.counts.cutouts as usize, sizes.symbols as usize - level.counts.symbols as usize]);
         line("blocks", &[hash(level.blocks) as usize]);
+        let levels = crn.unpack_levels(1).unwrap();
+        line("levels", &[0, 0, levels.sizes.len(), levels.counts.symbols as usize, levels.counts.cutouts as usize, hash(levels.blocks) as usize]);
     }
     line("empty", &[0, 0, 0]);
     line("refused", &[1, 1, 10, 2]);

@@ -11,13 +11,20 @@ use Rattle.crn_opening.specs.declared.opening.Opened.{Opened}
 use Rattle.crn_opening.specs.Opens.{openedBy}
 use Rattle.crunch.proofs.«open».Reads as opening
 use Rattle.crn_opening.proofs.open_into.Reads as open-into
+use Rattle.crn_chunks.specs.Meaning.{Served}
 use Rattle.crn_drawing.specs.Unpacks.{answerOf, symbolsOf, Unpacks}
+use Rattle.crn_drawing.specs.Levels.{Tabled}
 use Rattle.crn_drawing.specs.declared.Unpacked.{Unpacked}
 use Rattle.crn_drawing.specs.declared.Unpacked.the-variants.{Blocks, Refused}
+use Rattle.crn_drawing.proofs.draw_chunks.Reads as draw-chunks
 use Rattle.crn_drawing.proofs.draw_level.Reads as draw-level
 use Rattle.crn_level.proofs.unpack_level.Reads as unpack-level
 use Rattle.crn_level.proofs.unpack_level_by.Reads as unpack-level-by
-use Rattle.crn_laws_results.specs.Settled.{Settled, alike, alike₂}
+use Rattle.crn_level.proofs.unpack_made.Reads as unpack-made
+use Rattle.crn_levels.proofs.unpack_levels.Reads as unpack-levels
+use Rattle.crn_levels.specs.Several.{Ended, Gives}
+use Rattle.crn_levels.specs.declared.Several.{Several}
+use Rattle.crn_laws_results.specs.Settled.{Settled, SettledIf, alike, alike₂}
 
 pub open-settled : Settled {X = Opened × Palettes} opening.Post (λ a r (file, (ce, (cs, (ae, (al, _))))). (r, lentOf (now ce) (now cs) (now ae) (now al)))
 open-settled _ _ _ _ _ _ _ p q = alike₂ (p .answer) (q .answer) (p .leaves) (q .leaves)
@@ -47,6 +54,11 @@ unpacks-settled {left₁ = m} {left₂ = n} {d = d} {e = e} {r = r} {s = s} p q 
     let left : m ≡ n = omega (arith, p .spent, q .spent) in
     λ i. (same .0 i, (left i, same .1 i))
 
+-- by tables that decode some codes
+pub draw-chunks-settled : SettledIf {X = Unpacked × (ℕ × List ℕ)} (λ (format, (ps, (lookup, (sorted, _)))) r. Served ps (now lookup) (now sorted)) draw-chunks.Post
+    (λ a r (format, (ps, (lookup, (sorted, (seg, (ce, (cs, (ae, (al, (grid, (budget, (dst, _)))))))))))). (r, (now budget, now dst)))
+draw-chunks-settled _ _ _ _ _ _ _ some _ p q = unpacks-settled (p (some .codes) (some .coded)) (q (some .codes) (some .coded))
+
 pub draw-level-settled : Settled {X = Unpacked × (ℕ × List ℕ)} draw-level.Post
     (λ a r (header, (counts, (t₁, (t₂, (t₃, (t₄, (t₅, (seg, (ce, (cs, (ae, (al, (grid, (budget, (dst, _))))))))))))))). (r, (now budget, now dst)))
 draw-level-settled _ _ _ _ _ _ _ p q = unpacks-settled p q
@@ -59,3 +71,18 @@ pub unpack-level-by-settled : Settled {X = Unpacked × (ℕ × List ℕ)} unpack
     (λ a r (header, (counts, (t₁, (t₂, (t₃, (t₄, (t₅, (bytes, (ce, (cs, (ae, (al, (level, (pitch, (distance, (budget, (dst, _))))))))))))))))).
     (r, (now budget, now dst)))
 unpack-level-by-settled _ _ _ _ _ _ _ p q = unpacks-settled p q
+
+-- by decoder tables of some record
+pub unpack-made-settled : SettledIf {X = Unpacked × (ℕ × List ℕ)} (λ (header, (s, (lookup, (sorted, _)))) r. Tabled header s (now lookup) (now sorted)) unpack-made.Post
+    (λ a r (header, (s, (lookup, (sorted, (bytes, (ce, (cs, (ae, (al, (level, (pitch, (distance, (budget, (dst, _)))))))))))))). (r, (now budget, now dst)))
+unpack-made-settled _ _ _ _ _ _ _ some _ p q = unpacks-settled (p (some .of) (some .made)) (q (some .of) (some .made))
+
+-- ---- several levels
+
+pub gives-settled : {w : Ended} {left₁ left₂ : ℕ} {d e : List ℕ} {r s : Several} → Gives w left₁ d r → Gives w left₂ e s
+    → _≡_ {A = Several × (ℕ × List ℕ)} (r, (left₁, d)) (s, (left₂, e))
+gives-settled p q = λ i. (alike (p .answer) (q .answer) i, alike₂ (p .budget) (q .budget) (p .leaves) (q .leaves) i)
+
+pub unpack-levels-settled : Settled {X = Several × (ℕ × List ℕ)} unpack-levels.Post
+    (λ a r (header, (counts, (t₁, (t₂, (t₃, (t₄, (t₅, (bytes, (ce, (cs, (ae, (al, (first, (budget, (dst, _))))))))))))))). (r, (now budget, now dst)))
+unpack-levels-settled _ _ _ _ _ _ _ p q = gives-settled p q

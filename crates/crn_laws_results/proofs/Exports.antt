@@ -8,6 +8,7 @@ use Rattle.crn_formats.specs.Lent.{lentOf}
 use Rattle.crn_opening.specs.declared.opening.Opened.{Opened}
 use Rattle.crn_opening.specs.Opens.{openedBy}
 use Rattle.crn_drawing.specs.declared.Unpacked.{Unpacked}
+use Rattle.crn_levels.specs.declared.Several.{Several}
 use Rattle.crunch_abi.specs.declared.level.Answer.{Answer}
 use Rattle.crunch_abi.specs.Answers.{answerOf}
 use Rattle.crunch_abi.proofs.crunch_look.Reads as crunch-look
@@ -15,8 +16,9 @@ use Rattle.crunch_abi.proofs.crunch_open_parts.Reads as crunch-open-parts
 use Rattle.crunch_abi.proofs.crunch_palette_words.Reads as crunch-palette-words
 use Rattle.crunch_abi.proofs.crunch_level_sizes.Reads as crunch-level-sizes
 use Rattle.crunch_abi.proofs.crunch_unpack_level_parts.Reads as crunch-unpack-level-parts
+use Rattle.crunch_abi.proofs.crunch_unpack_levels_parts.Reads as crunch-unpack-levels-parts
 use Rattle.crn_laws_results.specs.Settled.{Settled, theAnswer, alike, alike₂}
-use Rattle.crn_laws_results.proofs.Entry.{unpacks-settled}
+use Rattle.crn_laws_results.proofs.Entry.{unpacks-settled, gives-settled}
 
 pub crunch-look-settled : Settled crunch-look.Post theAnswer
 crunch-look-settled _ _ _ _ _ _ _ p q = alike p q
@@ -38,3 +40,7 @@ pub crunch-unpack-level-parts-settled : Settled {X = Answer × (ℕ × List ℕ)
 crunch-unpack-level-parts-settled _ _ _ _ _ _ _ p q =
     let same = unpacks-settled (p .unpacks) (q .unpacks) in
     λ i. ((p .same ∙ ap (λ (x : Unpacked × (ℕ × List ℕ)). answerOf (x .0)) same ∙ sym (q .same)) i, same i .1)
+
+pub crunch-unpack-levels-parts-settled : Settled {X = Several × (ℕ × List ℕ)} crunch-unpack-levels-parts.Post
+    (λ a r (header, (counts, (t₁, (t₂, (t₃, (t₄, (t₅, (bytes, (ce, (cs, (ae, (al, (first, (budget, (dst, _))))))))))))))). (r, (now budget, now dst)))
+crunch-unpack-levels-parts-settled _ _ _ _ _ _ _ p q = gives-settled p q

@@ -50,6 +50,8 @@ use Rattle.crn_blocks.proofs.clear.Reads as clear
 use Rattle.crn_blocks.proofs.cutouts.Reads as cutouts
 use Rattle.crn_decoders.proofs.tables_hold.Reads as tables-hold
 use Rattle.crn_decoders.proofs.planes_of.Reads as planes-of
+use Rattle.crn_decoders.proofs.sizes_for.Reads as sizes-for
+use Rattle.crn_sizes.proofs.level_sizes.Reads as level-sizes
 use Rattle.crn_edits.proofs.edited.Reads as edited
 use Rattle.fnv.proofs.step.Reads as step
 use Rattle.draw_bench.proofs.sum_of_draws.Reads as sum-of-draws
@@ -228,6 +230,14 @@ tables-hold-settled _ _ _ _ _ _ _ p q = alike p q
 
 pub planes-of-settled : Settled planes-of.Post theAnswer
 planes-of-settled _ _ _ _ _ _ _ p q = alike p q
+
+pub sizes-for-settled : Settled sizes-for.Post theAnswer
+sizes-for-settled _ _ _ _ _ _ _ p q = alike p q
+
+-- ---- crn_sizes
+
+pub level-sizes-settled : Settled level-sizes.Post theAnswer
+level-sizes-settled _ _ _ _ _ _ _ p q = alike p q
 
 -- ---- crn_edits, fnv, draw_bench
 

@@ -1,19 +1,14 @@
--- The sizes that a host is told are enough: palettes of these words have room for an opening, and a level's pitch, distance and bytes are refused by neither 11 nor 12.
-use Prim.Native.Nat.{ℕ, suc, _+_, _*_, _-_, _%_, _≤_}
-use mathlib.Core.Path.{_≡_, refl, sym, ap, _∙_}
+-- The words that a host is told are enough: palettes of so many have room for an opening.
+use Prim.Native.Nat.{ℕ, _*_, _≤_}
+use mathlib.Core.Path.{_≡_, refl}
 use mathlib.Core.Bool.{Bool, true, false}
-use native.Mathlib.Omega.{arith}
-use native.Mathlib.Nat.{le-refl, suc-mul, mul-assoc, mul-comm, mul-mod-left}
 use lib.ListN.{length}
 use lib.Dec.{leb, ltb}
-use borrow.Author.Tests.{le-leb, eq-eqb}
+use borrow.Author.Tests.{le-leb}
 use Rattle.crn_format.specs.Choice.{pick, both}
 use Rattle.crn_format.specs.Opening.{Palettes, roomFor}
-use Rattle.crn_format.specs.Unpacking.{gridFits, reach}
 use Rattle.crn_format.specs.declared.Header.{Header}
-use Rattle.crunch_abi.specs.Sizes.{paletteWords, close}
-
--- ---- palettes
+use Rattle.crunch_abi.specs.Sizes.{paletteWords}
 
 plane : (there : Bool) (n m w k : ℕ) → n ≤ m → pick there w 0 ≤ k → pick there (both (leb n m) (leb w k)) true ≡ true
 plane true n m w k h l = simp (le-leb n m h, le-leb w k l)
@@ -29,33 +24,3 @@ palettes-fit h lent a b c d =
       plane (ltb 0 (h .«color_endpoints» .count)) (h .«color_endpoints» .count) (length (lent .colorEnds)) (h .«color_selectors» .count) (length (lent .colorSels)) a b,
       plane (ltb 0 (h .«alpha_endpoints» .count)) (h .«alpha_endpoints» .count) (length (lent .alphaEnds)) (3 * h .«alpha_selectors» .count) (length (lent .alphaSels)) c d,
     )
-
--- ---- a level, whose blocks are of so many times four bytes
-
-fours : (n q : ℕ) → n * (4 * q) % 4 ≡ 0
-fours n q = ap (λ (x : ℕ). x % 4) (ap (λ (x : ℕ). n * x) (mul-comm 4 q) ∙ sym (mul-assoc n q 4)) ∙ mul-mod-left (n * q) 4
-
-pub grid-fits : (faces columns rows q : ℕ) → gridFits (close faces columns rows (4 * q)) ≡ true
-grid-fits faces columns rows q =
-    let pitch : columns * (4 * q) % 4 ≡ 0 = fours columns q in
-    let distance : rows * (columns * (4 * q)) % 4 ≡ 0 = ap (λ (x : ℕ). x % 4) (sym (mul-assoc rows columns (4 * q))) ∙ fours (rows * columns) q in
-    simp (
-      eq-eqb (columns * (4 * q) % 4) 0 pitch,
-      eq-eqb (rows * (columns * (4 * q)) % 4) 0 distance,
-      le-leb (columns * (4 * q)) (columns * (4 * q)) (le-refl _),
-      le-leb (rows * (columns * (4 * q))) (rows * (columns * (4 * q))) (le-refl _),
-    )
-
-less-one : (n : ℕ) → suc n - 1 ≡ n
-less-one n = omega arith
-
-summed : (faces rows pitch : ℕ) → faces * (suc rows * pitch) + rows * pitch + pitch ≡ suc faces * (suc rows * pitch)
-summed faces rows pitch = omega (arith, suc-mul rows pitch, suc-mul faces (suc rows * pitch))
-
--- of one face and one row at least
-pub bytes-reach : (faces columns rows bytes : ℕ)
-    → reach (close (suc faces) columns (suc rows) bytes) ≡ suc faces * (suc rows * (columns * bytes))
-bytes-reach faces columns rows bytes =
-    ap (λ (x : ℕ). x * (suc rows * (columns * bytes)) + (suc rows - 1) * (columns * bytes) + columns * bytes) (less-one faces)
-    ∙ ap (λ (x : ℕ). faces * (suc rows * (columns * bytes)) + x * (columns * bytes) + columns * bytes) (less-one rows)
-    ∙ summed faces rows (columns * bytes)

@@ -11,9 +11,11 @@ use crunch::OpenedHeader;
 mod level; // a level unpacked
 mod sizes; // the sizes of a host's buffers
 
+pub use crn_levels::Several;
+pub use crn_sizes::LevelSizes;
 pub use level::Answer;
 pub use level::crunch_unpack_level_parts;
-pub use sizes::LevelSizes;
+pub use level::crunch_unpack_levels_parts;
 pub use sizes::PaletteWords;
 pub use sizes::crunch_level_sizes;
 pub use sizes::crunch_palette_words;

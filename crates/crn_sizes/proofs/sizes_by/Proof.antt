@@ -3,8 +3,8 @@ use Prim.Native.Nat.{_+_, _*_, _/_, _≤_}
 use native.Mathlib.Omega.{arith}
 use native.Mathlib.Nat.{mul-le-mul}
 use borrow.Author.Needs.{needs}
-use Rattle.crunch_abi.proofs.sizes.sizes_by.Statement.{statement}
-use Rattle.crunch_abi.proofs.sizes.sizes_by.Tie as tie
+use Rattle.crn_sizes.proofs.sizes_by.Statement.{statement}
+use Rattle.crn_sizes.proofs.sizes_by.Tie as tie
 
 row : (c : tie.Start) → c .args .columns * c .args .block-bytes ≤ 65536 * 256
 row c = mul-le-mul {n₂ = 65536} {m₂ = 256} (omega (arith, c .fits .columns .fits)) (omega (arith, c .fits .block-bytes .fits))

@@ -9,10 +9,10 @@ use Rattle.crn_format.specs.Header.{kindOf, withinLimits}
 use Rattle.crn_format.specs.Unpacking.{gridOf}
 use Rattle.crn_formats.proofs.ByFormat.{bytes-at-most}
 use Rattle.crn_formats.proofs.Limited.{Limited, limited}
-use Rattle.crunch_abi.specs.Sizes.{levelSizes}
-use Rattle.crunch_abi.proofs.Few.{few}
-use Rattle.crunch_abi.proofs.sizes.crunch_level_sizes.Statement.{statement}
-use Rattle.crunch_abi.proofs.sizes.crunch_level_sizes.Tie as tie
+use Rattle.crn_sizes.specs.Sizes.{levelSizes}
+use Rattle.crn_sizes.proofs.Few.{few}
+use Rattle.crn_sizes.proofs.level_sizes.Statement.{statement}
+use Rattle.crn_sizes.proofs.level_sizes.Tie as tie
 
 within : (c : tie.Else1) → withinLimits (c .before .before .args .header) ≡ true
 within c = sym (c .before .within-limits .ensures) ∙ not-false _ (c .if1 .left)
@@ -84,8 +84,8 @@ returns-3 c =
       c .before .before .block-bytes .ensures,
     )
 
-pub crunch-level-sizes-spec : {M : Type 1} → statement M
-crunch-level-sizes-spec =
+pub level-sizes-spec : {M : Type 1} → statement M
+level-sizes-spec =
     tie.close
     (tie.spec
     within-limits-requires
