@@ -27,7 +27,8 @@ use crn_grid::rows_of;
 use crn_level::unpack_made;
 use crn_sizes::level_sizes;
 
-// How many levels went through, the symbols drawn and the cut-outs of these; and the refusal of the level after them, with the bit that it names, 0 where each went through.
+// How many levels went through and their cut-outs, and the symbols drawn in all; and the refusal of the level after them, with the bit that it names, 0 where each went
+// through.
 #[repr(C)]
 pub struct Several {
     pub refusal: u32,
