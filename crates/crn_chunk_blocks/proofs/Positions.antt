@@ -15,6 +15,7 @@ use Rattle.crn_format.specs.Level.{tileCounts, tileMap, tileAt}
 use Rattle.crn_format.specs.Grid.{Shade, half, halves, little, nthList, blockOf, placeOf}
 use Rattle.crn_format.specs.Opening.{Palettes}
 use Rattle.crn_format.specs.declared.Grid.{Grid}
+use Rattle.crn_format.proofs.Choices.{and-hold}
 use Rattle.crn_consts.specs.Tiles.{tileIn, Tiles}
 use Rattle.crn_consts.proofs.Packed.{upTo, each-up-to}
 use Rattle.crn_chunks.specs.Meaning.{row, chunkOf}
@@ -126,10 +127,6 @@ one-fails : (a b : Bool) → (a && b) ≡ false → (a ≡ false) ⊎ (b ≡ fal
 one-fails true b e = inr e
 one-fails false b e = inl refl
 
-both-true : (a b : Bool) → (a && b) ≡ true → (a ≡ true) × (b ≡ true)
-both-true true b e = (refl, e)
-both-true false b e = absurd (false≢true e)
-
 -- k is the part of the position that counts: over which side it is
 module _ (at size k : ℕ) (few : k < 2) (covers : at < (size + 1) / 2) where
   reaches : (more here : Bool) → more ≡ ltb (2 * at + 1) size → (here ≡ true → k ≡ 0) → (more || here) ≡ true → 2 * at + k < size
@@ -143,7 +140,7 @@ module _ (at size k : ℕ) (few : k < 2) (covers : at < (size + 1) / 2) where
 module _ (g : Grid) (f cx cy q : ℕ) (right bottom : Bool) (in-chunk : Covered g f cx cy) (four : q < 4) (is : (right ≡ ltb (2 * cx + 1) (g .columns)) × (bottom ≡ ltb (2 * cy + 1) (g .rows))) where
   pub in-grid : ((right || eqb (q % 2) 0) && (bottom || ltb q 2)) ≡ true → In g f (2 * cx + q % 2) (2 * cy + q / 2)
   in-grid e =
-      let h = both-true (right || eqb (q % 2) 0) (bottom || ltb q 2) e in
+      let h = and-hold (right || eqb (q % 2) 0) (bottom || ltb q 2) e in
       record {
         face = in-chunk .face;
         column = reaches cx (g .columns) (q % 2) (omega arith) (in-chunk .column) right (eqb (q % 2) 0) (is .0) (λ z. eqb-true (q % 2) 0 z) (h .0);

@@ -19,7 +19,7 @@ use Rattle.crn_symbol_codec.specs.Decoders.{Decodes}
 use Rattle.crn_decoders.specs.declared.decoders.Sizes.{Sizes}
 use Rattle.crn_formats.specs.declared.records.Counts.{Counts}
 use Rattle.crn_decoders.specs.Tables.{countsOf, Few, Long, Fair, AllFair, Able, CodedTo, codesBy, tablesIn}
-use Rattle.crn_format.proofs.Choices.{both-hold}
+use Rattle.crn_format.proofs.Choices.{both-hold, and-hold}
 use Rattle.crn_chunks.specs.Meaning.{part}
 use Rattle.crn_blocks.proofs.Places.{further}
 use Rattle.crn_decoders.proofs.Parts.{part-here, part-before}
@@ -53,10 +53,6 @@ module _ (cs : ℕ → List ℕ) (k : ℕ) (s : Sizes) (lookup sorted ys zs us v
           rw (part-before (s .«lookup_step») lookup k fits₁ j l (ys ++ zs), part-before (s .«sorted_step») sorted k fits₂ j l (us ++ vs)) (before .each j l)
 
 -- ---- tables that hold
-
-and-hold : (a b : Bool) → (a && b) ≡ true → (a ≡ true) × (b ≡ true)
-and-hold true b e = (refl, e)
-and-hold false b e = absurd (false≢true e)
 
 none-fit : (ls : List ℕ) (n : ℕ) → n ≡ 0 → allFit (take n ls) (length (take n ls)) ≡ true
 unfolding allFit

@@ -1,6 +1,6 @@
 -- A symbol and an index by the quick way are what the slow way draws.
 use Prim.Native.Nat.{ℕ, _+_, _-_, _/_, _%_, _≤_, _<_}
-use mathlib.Core.Bool.{Bool, true, false, false≢true, _||_}
+use mathlib.Core.Bool.{Bool, false}
 use mathlib.Core.List.{List}
 use mathlib.Core.Path.{_≡_, refl, sym, ap, _∙_}
 use native.Mathlib.Omega.{arith}
@@ -80,7 +80,3 @@ found-code {seg = seg} {s = s} {d = d} x kept at v none few some {b} q =
           (ap (λ (z : ℕ). run (source seg) (symbol (cs 0)) (record { place = spot z (s .blamed); left = s .left })) (sym at) ∙ sym (r .same cs k)) few);
       on = (r .on .0, omega arith);
     })
-
-pub neither : (a b : Bool) → (a || b) ≡ false → (a ≡ false) × (b ≡ false)
-neither false b e = (refl, e)
-neither true b e = absurd (false≢true (sym e))

@@ -4,9 +4,10 @@ use native.Mathlib.Omega.{arith}
 use lib.Dec.{leb}
 use borrow.Author.Needs.{needs}
 use borrow.Author.Tests.{leb-false}
+use Rattle.crn_format.proofs.Choices.{neither}
 use Rattle.crn_chunks.specs.Meaning.{source, spending}
 use Rattle.crn_chunks.proofs.Encoding.{pending-two, pending-one}
-use Rattle.crn_quick.proofs.Stepping.{neither, found-code}
+use Rattle.crn_quick.proofs.Stepping.{found-code}
 use Rattle.crn_quick.proofs.quick_code.Statement.{statement}
 use Rattle.crn_quick.proofs.quick_code.Tie as tie
 
