@@ -154,6 +154,10 @@ struct crunch_several crunch_unpack_levels_parts(
 
 /* ---- a record by its parts: nothing of its 41,000 bytes is copied but the header and the counts */
 
+#define CRUNCH_LENGTHS \
+    record->tables.chunk_encoding.lengths, record->tables.color_endpoint_delta.lengths, record->tables.color_selector_delta.lengths, \
+    record->tables.alpha_endpoint_delta.lengths, record->tables.alpha_selector_delta.lengths
+
 static inline struct crunch_opened crunch_open(
     struct crunch_record *record, const uint8_t *file, size_t file_len,
     uint32_t *color_endpoints, size_t color_endpoints_len, uint32_t *color_selectors, size_t color_selectors_len,
@@ -161,8 +165,7 @@ static inline struct crunch_opened crunch_open(
 {
     struct crunch_opened_header o = crunch_open_parts(
         file, file_len, color_endpoints, color_endpoints_len, color_selectors, color_selectors_len, alpha_endpoints, alpha_endpoints_len, alpha_selectors, alpha_selectors_len,
-        record->tables.chunk_encoding.lengths, record->tables.color_endpoint_delta.lengths, record->tables.color_selector_delta.lengths,
-        record->tables.alpha_endpoint_delta.lengths, record->tables.alpha_selector_delta.lengths);
+        CRUNCH_LENGTHS);
     struct crunch_opened answer = {o.refusal, o.at};
     record->header = o.header;
     record->tables.chunk_encoding.count = o.counts.chunk_encoding;
@@ -182,18 +185,18 @@ static inline struct crunch_counts crunch_counts_of(const struct crunch_record *
     return counts;
 }
 
+/* what both unpackers hand on: the record by its parts, the file, the palettes */
+#define CRUNCH_PARTS \
+    record->header, crunch_counts_of(record), CRUNCH_LENGTHS, \
+    file, file_len, color_endpoints, color_endpoints_len, color_selectors, color_selectors_len, alpha_endpoints, alpha_endpoints_len, alpha_selectors, alpha_selectors_len
+
 static inline struct crunch_answer crunch_unpack_level(
     const struct crunch_record *record, const uint8_t *file, size_t file_len,
     const uint32_t *color_endpoints, size_t color_endpoints_len, const uint32_t *color_selectors, size_t color_selectors_len,
     const uint16_t *alpha_endpoints, size_t alpha_endpoints_len, const uint16_t *alpha_selectors, size_t alpha_selectors_len,
     uint32_t level, size_t pitch, size_t distance, uint64_t *budget, uint8_t *dst, size_t dst_len)
 {
-    return crunch_unpack_level_parts(
-        record->header, crunch_counts_of(record), record->tables.chunk_encoding.lengths,
-        record->tables.color_endpoint_delta.lengths, record->tables.color_selector_delta.lengths,
-        record->tables.alpha_endpoint_delta.lengths, record->tables.alpha_selector_delta.lengths,
-        file, file_len, color_endpoints, color_endpoints_len, color_selectors, color_selectors_len, alpha_endpoints, alpha_endpoints_len, alpha_selectors, alpha_selectors_len,
-        level, pitch, distance, budget, dst, dst_len);
+    return crunch_unpack_level_parts(CRUNCH_PARTS, level, pitch, distance, budget, dst, dst_len);
 }
 
 static inline struct crunch_several crunch_unpack_levels(
@@ -202,13 +205,11 @@ static inline struct crunch_several crunch_unpack_levels(
     const uint16_t *alpha_endpoints, size_t alpha_endpoints_len, const uint16_t *alpha_selectors, size_t alpha_selectors_len,
     uint32_t first, uint64_t *budget, uint8_t *dst, size_t dst_len)
 {
-    return crunch_unpack_levels_parts(
-        record->header, crunch_counts_of(record), record->tables.chunk_encoding.lengths,
-        record->tables.color_endpoint_delta.lengths, record->tables.color_selector_delta.lengths,
-        record->tables.alpha_endpoint_delta.lengths, record->tables.alpha_selector_delta.lengths,
-        file, file_len, color_endpoints, color_endpoints_len, color_selectors, color_selectors_len, alpha_endpoints, alpha_endpoints_len, alpha_selectors, alpha_selectors_len,
-        first, budget, dst, dst_len);
+    return crunch_unpack_levels_parts(CRUNCH_PARTS, first, budget, dst, dst_len);
 }
+
+#undef CRUNCH_PARTS
+#undef CRUNCH_LENGTHS
 
 #ifdef __cplusplus
 }

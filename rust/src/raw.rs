@@ -269,6 +269,37 @@ pub fn open(file: &[u8], palettes: &mut PalettesMut<'_>, record: &mut Record) ->
     Opened { refusal: opened.refusal, at: opened.at }
 }
 
+/// An export over a record, which goes by its parts, a file and palettes, then over arguments of its own.
+macro_rules! over_record {
+    ($export:ident, $record:expr, $file:expr, $palettes:expr, $($own:expr),+) => {{
+        let Palettes { color_endpoints: ce, color_selectors: cs, alpha_endpoints: ae, alpha_selectors: al } = *$palettes;
+        let t = &$record.tables;
+        // SAFETY: as in `open`.
+        unsafe {
+            $export(
+                $record.header,
+                t.counts(),
+                &t.chunk_encoding.lengths,
+                &t.color_endpoint_delta.lengths,
+                &t.color_selector_delta.lengths,
+                &t.alpha_endpoint_delta.lengths,
+                &t.alpha_selector_delta.lengths,
+                $file.as_ptr(),
+                $file.len(),
+                ce.as_ptr(),
+                ce.len(),
+                cs.as_ptr(),
+                cs.len(),
+                ae.as_ptr(),
+                ae.len(),
+                al.as_ptr(),
+                al.len(),
+                $($own),+
+            )
+        }
+    }};
+}
+
 /// Unpacks a level of every face: face f starts at f times the distance, rows are a pitch apart. The budget is counted down by each symbol drawn.
 #[allow(clippy::too_many_arguments)]
 pub fn unpack_level(
@@ -281,67 +312,11 @@ pub fn unpack_level(
     budget: &mut u64,
     dst: &mut [u8],
 ) -> Answer {
-    let Palettes { color_endpoints: ce, color_selectors: cs, alpha_endpoints: ae, alpha_selectors: al } = *palettes;
-    let t = &record.tables;
-    // SAFETY: as in `open`.
-    unsafe {
-        crunch_unpack_level_parts(
-            record.header,
-            t.counts(),
-            &t.chunk_encoding.lengths,
-            &t.color_endpoint_delta.lengths,
-            &t.color_selector_delta.lengths,
-            &t.alpha_endpoint_delta.lengths,
-            &t.alpha_selector_delta.lengths,
-            file.as_ptr(),
-            file.len(),
-            ce.as_ptr(),
-            ce.len(),
-            cs.as_ptr(),
-            cs.len(),
-            ae.as_ptr(),
-            ae.len(),
-            al.as_ptr(),
-            al.len(),
-            level,
-            pitch,
-            distance,
-            budget,
-            dst.as_mut_ptr(),
-            dst.len(),
-        )
-    }
+    over_record!(crunch_unpack_level_parts, record, file, palettes, level, pitch, distance, budget, dst.as_mut_ptr(), dst.len())
 }
 
 /// Unpacks the levels from `first` on to the last, each with its rows and faces close together ([`level_sizes`]), and its blocks where those of the level before end.
 /// The first refusal stops: levels before it stay, its own blocks are as [`unpack_level`] leaves them, later bytes are untouched.
 pub fn unpack_levels(record: &Record, file: &[u8], palettes: &Palettes<'_>, first: u32, budget: &mut u64, dst: &mut [u8]) -> Several {
-    let Palettes { color_endpoints: ce, color_selectors: cs, alpha_endpoints: ae, alpha_selectors: al } = *palettes;
-    let t = &record.tables;
-    // SAFETY: as in `open`.
-    unsafe {
-        crunch_unpack_levels_parts(
-            record.header,
-            t.counts(),
-            &t.chunk_encoding.lengths,
-            &t.color_endpoint_delta.lengths,
-            &t.color_selector_delta.lengths,
-            &t.alpha_endpoint_delta.lengths,
-            &t.alpha_selector_delta.lengths,
-            file.as_ptr(),
-            file.len(),
-            ce.as_ptr(),
-            ce.len(),
-            cs.as_ptr(),
-            cs.len(),
-            ae.as_ptr(),
-            ae.len(),
-            al.as_ptr(),
-            al.len(),
-            first,
-            budget,
-            dst.as_mut_ptr(),
-            dst.len(),
-        )
-    }
+    over_record!(crunch_unpack_levels_parts, record, file, palettes, first, budget, dst.as_mut_ptr(), dst.len())
 }
