@@ -21,7 +21,7 @@ use Rattle.crn_symbol_codec.specs.Decoders.{SomeCode}
 use Rattle.crn_short_draw.proofs.ready.Reads as ready
 use Rattle.crn_short_draw.proofs.draw.Reads as short-draw
 use Rattle.crn_short_draw.proofs.number.Reads as short-number
-use Rattle.crn_palettes.proofs.filled.Reads as filled
+use Rattle.crn_short_draw.proofs.filled.Reads as filled
 use Rattle.crn_laws_results.specs.Settled.{Settled, SettledIf, alike}
 use Rattle.crn_laws_results.proofs.Steps.{got-tells, refused-tells, got-or-refused}
 

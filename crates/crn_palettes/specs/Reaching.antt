@@ -8,7 +8,7 @@ use Rattle.crn_format.specs.Limits.{maxSymbols}
 use Rattle.crn_format.specs.Codes.{allFit}
 use Rattle.crn_format.specs.Reading.{Reading, Step, got, refused, Place, spot, run, fromBits}
 use Rattle.crn_format.specs.Tables.{table}
-use Rattle.crn_symbol_codec.specs.Cursors.{place, Holds, Enough}
+use Rattle.crn_symbol_codec.specs.Cursors.{place, Holds}
 use Rattle.crn_symbol_codec.specs.Decoders.{Decodes}
 use Rattle.crn_symbol_codec.specs.declared.Cursor.{Cursor}
 use Rattle.crn_palettes.specs.declared.reading.Reached.{Reached}
@@ -19,12 +19,6 @@ use Rattle.crn_palettes.specs.declared.reading.Sent.the-variants.{Table,
 -- a cursor by its parts
 abbrev pub cursorAt : ℕ → ℕ → ℕ → Cursor
 cursorAt bits have next = record { bits = bits; have = have; next = next }
-
--- r is c with 16 bits, or all that are left
-pub record Near (seg : List ℕ) (c r : Cursor) : Type 0 where
-  pub holds : Holds seg r
-  pub stays : place r ≡ place c
-  pub enough : Enough seg r 16
 
 -- refusal 0 and the cursor after a part; or the refusal, and the cursor at the bit that it names
 abbrev pub endedAt : ℕ → Cursor → Reached

@@ -9,7 +9,6 @@ pub use reading::Reached;
 pub use reading::Sent;
 pub use reading::build_decoder;
 pub use reading::few;
-pub use reading::filled;
 pub use reading::receive_lengths;
 pub use reading::wide;
 

@@ -6,11 +6,10 @@ ghost use lib.ListN.{length, take, replicate};
 ghost use Rattle.crn_format.specs.Limits.{tooLong, maxSymbols};
 ghost use Rattle.crn_symbol_codec.specs.Cursors.{Holds};
 ghost use Rattle.crn_symbol_codec.specs.Decoders.{Decodes};
-ghost use Rattle.crn_palettes.specs.Reaching.{Near, Codes, Lengths};
+ghost use Rattle.crn_palettes.specs.Reaching.{Codes, Lengths};
 use crn_code_tables::receive;
 use crn_static_huffman_data_model::build;
 use crn_symbol_codec::Cursor;
-use crn_symbol_codec::refill;
 
 // The cursor after a part; or the refusal and the bit that it names.
 pub enum Reached {
@@ -29,17 +28,6 @@ pub fn wide(x: u8) -> u32
     ensures { λ r. ⌜ (r ≡ x) × (r < 256) ⌝ }
 {
     x as u32
-}
-
-// The cursor with 16 bits, or all that are left.
-pub fn filled(seg: &[u8], c: Cursor) -> Cursor
-    requires { ⌜ Holds (now seg) c ⌝ }
-    ensures { λ r. ⌜ Near (now (seg .entry)) c r ⌝ }
-{
-    if c.have < 16 {
-        return refill(seg, c);
-    }
-    c
 }
 
 // A code table is received into lengths that are all zero.
@@ -71,7 +59,7 @@ pub fn build_decoder(
     build(&lengths[..count], most, lookup, sorted);
 }
 
-// Whether small arrays do for tables of so many symbols: room for 256, and for 9 first bits looked up, which few entries are read by.
+// Whether small arrays do for a palette of so many entries, read by two tables of so many symbols: room for 256, and for 9 first bits to look up.
 pub fn few(symbols: usize, others: usize, entries: usize) -> bool
     ensures { λ r. ⌜ (r ≡ true → (symbols ≤ 256) × (others ≤ 256)) ⌝ }
 {

@@ -6,7 +6,6 @@ ghost use mathlib.Core.Bool.{Bool, true, false};
 ghost use Prim.Native.Nat.{_+_, _<_, _≤_};
 ghost use lib.ListN.{length};
 ghost use Rattle.crn_format.specs.Limits.{tooLong, maxEntries};
-ghost use Rattle.crn_symbol_codec.specs.Cursors.{place as «placeOf», Holds};
 ghost use Rattle.crn_chunks.specs.Meaning.{Onward, Served, Named, Small, most};
 ghost use Rattle.crn_chunks.specs.Parts.{Ready};
 ghost use Rattle.crn_chunks.specs.Reads.{Reads, insideOf};
@@ -17,6 +16,7 @@ use crn_chunks::Planes;
 use crn_chunks::Side;
 use crn_chunks::Stream;
 use crn_consts::tile_count;
+use crn_short_draw::filled;
 use crn_symbol_codec::Cursor;
 use crn_symbol_codec::entry;
 use crn_symbol_codec::place;
@@ -64,17 +64,6 @@ struct QuickChunk {
     pub carried: Carried,
     pub stream: Stream,
     pub lost: bool,
-}
-
-// 16 bits or more, if the segment has them.
-fn filled(seg: &[u8], c: Cursor) -> Cursor
-    requires { ⌜ Holds (now seg) c ⌝ }
-    ensures { λ r. ⌜ Holds (now (seg .entry)) r × («placeOf» r ≡ «placeOf» c) ⌝ }
-{
-    if c.have < 16 {
-        return refill(seg, c);
-    }
-    c
 }
 
 // n for each plane.

@@ -10,6 +10,10 @@ use crn_symbol_codec::Cursor;
 use crn_symbol_codec::Taken;
 use crn_symbol_codec::refill;
 
+mod filling;
+
+pub use filling::filled;
+
 // The compiler takes a function into its callers up to a certain length. These are short enough one by one, so that the cursor stays in
 // registers; what is rare is left to the functions of `crn_symbol_codec`.
 

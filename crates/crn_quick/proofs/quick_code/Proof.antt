@@ -40,10 +40,10 @@ filled-requires : tie.Need-filled-requires
 filled-requires c κs = c .before .before .before .before .before .before .pre .0 .holds
 
 quick-symbol-requires : tie.Need-quick-symbol-requires
-quick-symbol-requires c κs = (record { served = c .before .before .before .before .before .before .before .pre .0 .served; holds = c .filled .ensures .0 }, c .before .before .before .before .before .before .before .pre .0 .served .some)
+quick-symbol-requires c κs = (record { served = c .before .before .before .before .before .before .before .pre .0 .served; holds = c .filled .ensures .holds }, c .before .before .before .before .before .before .before .pre .0 .served .some)
 
 place-requires : tie.Need-place-requires
-place-requires c κs = (c .before .before .filled .ensures .0, c .before .before .before .before .before .before .before .before .before .pre .0 .short)
+place-requires c κs = (c .before .before .filled .ensures .holds, c .before .before .before .before .before .before .before .before .before .pre .0 .short)
 
 sub-t21 : tie.Need-sub-t21
 sub-t21 c = c .before .before .before .before .before .before .before .before .before .before .before .pre .1
@@ -63,7 +63,7 @@ returns-3 c =
     record {
       same = λ z.
           let found = neither (c .before .before .before .quick-symbol .result .lost) (leb 1024 (c .before .before .before .quick-symbol .result .number)) z in
-          found-code (c .before .before .before .quick-symbol .ensures) (found .0) (c .before .before .before .before .filled .ensures .1) (st .args .pending) (c .before .before .before .before .before .before .if2 .left) (leb-false _ _ (found .1)) (st .pre .1) (c .before .place .ensures);
+          found-code (c .before .before .before .quick-symbol .ensures) (found .0) (c .before .before .before .before .filled .ensures .stays) (st .args .pending) (c .before .before .before .before .before .before .if2 .left) (leb-false _ _ (found .1)) (st .pre .1) (c .before .place .ensures);
       few = omega arith;
     }
 

@@ -21,7 +21,7 @@ filled-requires : tie.Need-filled-requires Inv-loop μ-loop
 filled-requires c κs = quick-now (c .before .loop .inv) .holds
 
 quick-index-requires : tie.Need-quick-index-requires Inv-loop μ-loop
-quick-index-requires c κs = (record { served = c .before .before .before .before .before .before .before .pre .0 .served; holds = c .filled .ensures .0 }, (c .before .before .before .before .before .before .before .pre .1 .0 .ends, (c .before .before .before .before .before .before .before .pre .1 .1 .0 .endpoints, quick-now (c .before .before .loop .inv) .below)))
+quick-index-requires c κs = (record { served = c .before .before .before .before .before .before .before .pre .0 .served; holds = c .filled .ensures .holds }, (c .before .before .before .before .before .before .before .pre .1 .0 .ends, (c .before .before .before .before .before .before .before .pre .1 .1 .0 .endpoints, quick-now (c .before .before .loop .inv) .below)))
 
 same-length : tie.Need-same-length Inv-loop μ-loop
 same-length c = quick-now (c .before .before .before .before .loop .inv) .long
@@ -45,7 +45,7 @@ loop-less : tie.Need-loop-less Inv-loop μ-loop
 loop-less c = omega arith
 
 loop-again : tie.Need-loop-again Inv-loop μ-loop
-loop-again c = quick-more (c .before .before .before .before .before .loop .inv) (c .before .before .before .filled .ensures .0) (c .before .before .before .filled .ensures .1) (c .before .before .before .before .loop-test .taken) (c .before .before .quick-index .ensures true) (c .before .if1 .left) (c .before .before .before .before .before .before .before .before .before .before .pre .1 .1 .1 .1)
+loop-again c = quick-more (c .before .before .before .before .before .loop .inv) (c .before .before .before .filled .ensures .holds) (c .before .before .before .filled .ensures .stays) (c .before .before .before .before .loop-test .taken) (c .before .before .quick-index .ensures true) (c .before .if1 .left) (c .before .before .before .before .before .before .before .before .before .before .pre .1 .1 .1 .1)
 
 same-length-2 : tie.Need-same-length-2 Inv-loop μ-loop
 same-length-2 c = quick-now (c .before .loop .inv) .long

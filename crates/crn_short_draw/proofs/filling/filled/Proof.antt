@@ -1,8 +1,8 @@
 -- A refill gives more bits than are wanted.
 use native.Mathlib.Omega.{arith}
 use borrow.Author.Needs.{needs}
-use Rattle.crn_palettes.proofs.reading.filled.Statement.{statement}
-use Rattle.crn_palettes.proofs.reading.filled.Tie as tie
+use Rattle.crn_short_draw.proofs.filling.filled.Statement.{statement}
+use Rattle.crn_short_draw.proofs.filling.filled.Tie as tie
 
 refill-requires : tie.Need-refill-requires
 refill-requires c κs = search needs

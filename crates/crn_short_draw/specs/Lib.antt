@@ -1,0 +1,2 @@
+-- What a cursor has at hand.
+pub mod Filling
