@@ -1,10 +1,12 @@
-// The public entry (the Rust's crunch.rs): a file opened, and a level unpacked, with the record whole or by its parts. None asks anything of
-// its caller.
+// The public entry (the Rust's crunch.rs): a file opened, and a level unpacked, with the record whole or by its parts; and all its levels in one
+// call. None asks anything of its caller.
 mod whole; // the record whole
 
 pub use crn_level::Unpacked;
 pub use crn_level::unpack_level;
 pub use crn_level::unpack_level_by;
+pub use crn_levels::Several;
+pub use crn_levels::unpack_levels;
 pub use crn_opening::Opened;
 pub use crn_opening::OpenedHeader;
 pub use crn_opening::open_into;
