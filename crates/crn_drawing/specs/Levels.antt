@@ -54,7 +54,7 @@ pub record Made (r : Record) (s : Sizes) (lookup sorted : List ℕ) : Type 0 whe
   pub able : Able s (length lookup) (length sorted)
   pub coded : CodedTo (codesIn r) (tablesFor (r .header)) s lookup sorted
 
--- of some tables
+-- they hold those of some record with the header h
 pub record Tabled (h : Header) (s : Sizes) (lookup sorted : List ℕ) : Type 0 where
   pub of : Tables
   pub made : Made (recordWith h of) s lookup sorted

@@ -55,6 +55,7 @@ fn sizes_by(faces: u8, columns: u16, rows: u16, block_bytes: u8) -> LevelSizes
     }
 }
 
+// What a host needs to unpack a level: its blocks, the least pitch, distance and destination, and the full symbol allowance; or refusal 2 or 10.
 pub fn level_sizes(header: Header, level: u32) -> LevelSizes
     ensures { λ r. ⌜ r ≡ levelSizes header level ⌝ }
 {
