@@ -5,5 +5,6 @@ pub mod Drawing
 pub mod Kraft
 pub mod Scripts
 pub mod Budget
+pub mod Passing
 pub mod Writing
 pub mod Examples

@@ -1,19 +1,17 @@
 -- How a level's run ends, whatever its budget: a run that accepts took a script, and a script is what a run takes.
 use Prim.Native.Nat.{ℕ, _-_, _≤_, _<_}
-use mathlib.Core.Path.{_≡_, refl, ap, _∙_}
-use mathlib.Core.Bool.{Bool, true, false}
+use mathlib.Core.Path.{_≡_, ap, _∙_}
+use mathlib.Core.Bool.{true}
 use mathlib.Core.List.{List}
 use native.Mathlib.Omega.{arith}
 use lib.ListN.{length}
-use lib.Dec.{ltb, leb}
 use borrow.Author.Tests.{lt-ltb, le-leb, ltb-true, leb-true}
-use Rattle.crn_format.specs.Choice.{pick}
-use Rattle.crn_format.specs.Header.{withinLimits}
 use Rattle.crn_format.specs.Reading.{Reading, Step, got, refused, run, Place, start, fromBits, budgeted}
 use Rattle.crn_format.specs.Script.{taken, Accepts}
 use Rattle.crn_format.specs.Level.{Chunk, fresh}
 use Rattle.crn_format.specs.Grid.{chunkCount, insides, blockAt, painted, blank}
-use Rattle.crn_format.specs.Unpacking.{lengthsOf, tablesHold, levelStands, palettesReach, gridFits, reach, planesOf, Unpacking, unpacked, declined, cutoutCount, ended, levelReading, drawnLevel, unpacking}
+use Rattle.crn_format.specs.Unpacking.{lengthsOf, tablesHold, planesOf, Unpacking, unpacked, declined, cutoutCount, ended, levelReading, drawnLevel, unpacking}
+use Rattle.crn_format.proofs.Passing.{accepted-passed}
 use Rattle.crn_format.proofs.Scripts.{replayed, spending, laid, followed}
 use Rattle.crn_format.proofs.Writing.{laid-out}
 use Rattle.crn_laws.specs.Scripts.{Draws, symbols, levelSent, chunksBy}
@@ -53,30 +51,18 @@ answered v (refused n w) = declined n (drawnIn v) (w .blamed) (painted (gridIn v
 pub never : {n s t x d : ℕ} {e f : List ℕ} → declined n s t e ≡ unpacked x d f → ⊥
 never e = let z : _≡_ {A = ℕ} 0 1 = cc in omega arith
 
--- one test of those before the first draw
-one-passed : (t : Bool) (u w : Unpacking) → Accepted (pick t u w) → (Accepted w → ⊥) → (t ≡ true) × Accepted u
-one-passed true u w h no-w = (refl, h)
-one-passed false u w h no-w = absurd (no-w h)
-
 -- a level that is accepted has passed them
 pub accepted-passes : (v : Given) (b : ℕ) → Accepted (unpackingIn v b) → Passes v
-unfolding unpacking
 accepted-passes v b h =
-    let p0 = one-passed (withinLimits (v .opened .header)) _ _ h (λ a. never (a .3)) in
-    let p1 = one-passed (tablesHold (v .opened .tables)) _ _ (p0 .1) (λ a. never (a .3)) in
-    let p2 = one-passed (ltb (v .number) (v .opened .header .levels)) _ _ (p1 .1) (λ a. never (a .3)) in
-    let p3 = one-passed (levelStands (v .file) (v .opened .header) (v .number)) _ _ (p2 .1) (λ a. never (a .3)) in
-    let p4 = one-passed (palettesReach (v .opened .header) (v .palettes)) _ _ (p3 .1) (λ a. never (a .3)) in
-    let p5 = one-passed (gridFits (gridIn v)) _ _ (p4 .1) (λ a. never (a .3)) in
-    let p6 = one-passed (leb (reach (gridIn v)) (length (v .destination))) _ _ (p5 .1) (λ a. never (a .3)) in
+    let a = accepted-passed (v .opened) (v .file) (v .palettes) (v .number) (v .pitch) (v .distance) b (v .destination) (h .3) in
     record {
-      limits = p0 .0;
-      tables = p1 .0;
-      number = ltb-true _ _ (p2 .0);
-      segment = p3 .0;
-      palettes = p4 .0;
-      grid = p5 .0;
-      room = leb-true _ _ (p6 .0);
+      limits = a .limits;
+      tables = a .tables;
+      number = ltb-true _ _ (a .number);
+      segment = a .stands;
+      palettes = a .palettes;
+      grid = a .grid;
+      room = leb-true _ _ (a .room);
     }
 
 module _ (v : Given) (c : Passes v) where

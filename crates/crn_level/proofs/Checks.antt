@@ -25,19 +25,10 @@ use Rattle.crn_drawing.specs.Unpacks.{answerOf, Unpacks}
 use Rattle.crn_drawing.specs.Levels.{Checked}
 use Rattle.crn_level.specs.Refusals.{firstFailed, refusalBy}
 use Rattle.crn_format.proofs.Choices.{both-hold}
+use Rattle.crn_format.proofs.Passing.{Passed, LevelPassed, passed-drawn}
 use Rattle.crn_formats.proofs.Limited.{Limited, limited}
 
 -- ---- seven tests
-
--- each of them holds
-pub record Passed (a b c d e f g : Bool) : Type 0 where
-  pub limits : a ≡ true
-  pub tables : b ≡ true
-  pub number : c ≡ true
-  pub stands : d ≡ true
-  pub palettes : e ≡ true
-  pub grid : f ≡ true
-  pub room : g ≡ true
 
 not-zero : {X : Type 0} (n : ℕ) → 0 < n → n ≡ 0 → X
 not-zero n h e = let z : ⊥ = omega arith in absurd z
@@ -124,8 +115,7 @@ module _ (r : Record) (file : List ℕ) (p : Palettes) (level pitch distance n :
   found = rw holds at is
 
   module _ (z : m ≡ 0) where
-    all : Passed (withinLimits (r .header)) (tablesHold (r .tables)) (ltb level (r .header .levels)) (levelStands file (r .header) level) (palettesReach (r .header) p)
-        (gridFits (gridOf (r .header) level pitch distance)) (leb (reach (gridOf (r .header) level pitch distance)) n)
+    all : LevelPassed r file p level pitch distance n
     all = passed _ _ _ _ _ _ _ (sym found ∙ z)
 
     pub stands-so : levelStands file (r .header) level ≡ true
@@ -160,8 +150,7 @@ module _ (r : Record) (file : List ℕ) (p : Palettes) (level pitch distance bud
   module _ (z : m ≡ 0) where
     drawn-so : unpacking r file p level pitch distance budget d
         ≡ drawnLevel r (levelSegment file (r .header) level) p (gridOf (r .header) level pitch distance) budget d
-    unfolding unpacking
-    drawn-so = let a = all r file p level pitch distance (length d) holds is z in simp (a .limits, a .tables, a .number, a .stands, a .palettes, a .grid, a .room)
+    drawn-so = passed-drawn r file p level pitch distance budget d (all r file p level pitch distance (length d) holds is z)
 
     pub then-level : {seg : List ℕ} → seg ≡ levelSegment file (r .header) level → {q : Grid} → q ≡ gridOf (r .header) level pitch distance
         → {left : ℕ} {e : List ℕ} {u : Unpacked} → Unpacks (drawnLevel r seg p q budget d) budget left e u

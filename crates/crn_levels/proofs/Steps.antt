@@ -1,13 +1,13 @@
 -- One level more: from how far it has come to how far it comes, or to its refusal.
 use Prim.Native.Nat.{ℕ, zero, suc, _+_, _*_, _-_, _≤_, _<_}
-use mathlib.Core.Path.{_≡_, refl, sym, ap, subst, _∙_}
+use mathlib.Core.Path.{_≡_, refl, sym, ap, _∙_}
 use mathlib.Core.Bool.{Bool, true, false}
 use mathlib.Core.List.{List, [], _++_, append-nil}
 use native.Mathlib.Omega.{arith}
 use native.Mathlib.Nat.{suc-mul, mul-le-mul}
 use lib.ListN.{length, take, drop, length-drop}
 use lib.Seq.{take-all, drop-length}
-use lib.Dec.{leb, ltb}
+use lib.Dec.{ltb}
 use borrow.Author.Tests.{leb-true, le-ltb}
 use borrow.Rule.Slice.PartMut.{putMid}
 use Rattle.crn_format.specs.Choice.{pick}
@@ -16,10 +16,11 @@ use Rattle.crn_format.specs.Header.{Kind, DXT1, DXT5, DXT5A, DXN, unknown, kind
 use Rattle.crn_format.specs.Level.{Chunk}
 use Rattle.crn_format.specs.Grid.{Shade, isCutout, rowCutouts, faceCutouts, cutouts, blockAt}
 use Rattle.crn_format.specs.Opening.{Palettes}
-use Rattle.crn_format.specs.Unpacking.{Unpacking, unpacked, declined, tablesHold, levelStands, levelSegment, palettesReach, shadesOf, levelReading, gridOf, gridFits, reach, cutoutCount, ended, drawnLevel, unpacking}
+use Rattle.crn_format.specs.Unpacking.{Unpacking, unpacked, declined, tablesHold, levelSegment, shadesOf, levelReading, gridOf, reach, cutoutCount, ended, drawnLevel, unpacking}
 use Rattle.crn_format.specs.declared.Header.{Header}
 use Rattle.crn_format.specs.declared.Record.{Record}
 use Rattle.crn_format.specs.declared.Grid.{Grid}
+use Rattle.crn_format.proofs.Passing.{passed-drawn, accepted-passed}
 use Rattle.crn_formats.proofs.Limited.{limited}
 use Rattle.crn_drawing.specs.Unpacks.{answerOf, Unpacks}
 use Rattle.crn_drawing.specs.declared.Unpacked.the-variants.{Blocks, Refused}
@@ -74,11 +75,7 @@ module _ (g : Grid) (faces : g .faces ≤ 6) (columns : g .columns ≤ 1024) (ro
 
 -- ---- a level that went through
 
-passes : (b : Bool) (x : Unpacking) (m : ℕ) (d : List ℕ) {s c : ℕ} {e : List ℕ} → pick b x (declined m 0 0 d) ≡ unpacked s c e → (b ≡ true) × (x ≡ unpacked s c e)
-passes true x m d h = (refl, h)
-passes false x m d h = let z : _≡_ {A = ℕ} 0 1 = cc in absurd (omega arith)
-
-sizes-so : (h : Header) (n : ℕ) → withinLimits h ≡ true → ltb n (h .levels) ≡ true → levelSizes h n ≡ sizesOf (closeGrid h n)
+pub sizes-so : (h : Header) (n : ℕ) → withinLimits h ≡ true → ltb n (h .levels) ≡ true → levelSizes h n ≡ sizesOf (closeGrid h n)
 unfolding levelSizes
 sizes-so h n a b = simp (a, b)
 
@@ -91,24 +88,19 @@ module _ (r : Record) (file : List ℕ) (p : Palettes) (n budget : ℕ) (dst : L
   g = gridOf (r .header) n (z .pitch) (z .distance)
 
   -- its bytes are there, and its cut-outs few
-  through : (s c : ℕ) (e : List ℕ) → unpacking r file p n (z .pitch) (z .distance) budget dst ≡ unpacked s c e → (z .bytes ≤ length dst) × (c ≤ mostCutouts)
-  unfolding unpacking drawnLevel gridOf
+  pub through : (s c : ℕ) (e : List ℕ) → unpacking r file p n (z .pitch) (z .distance) budget dst ≡ unpacked s c e → (z .bytes ≤ length dst) × (c ≤ mostCutouts)
+  unfolding drawnLevel gridOf
   through s c e h =
-      let p0 = passes (withinLimits (r .header)) _ 2 dst h in
-      let p1 = passes (tablesHold (r .tables)) _ 6 dst (p0 .1) in
-      let p2 = passes (ltb n (r .header .levels)) _ 10 dst (p1 .1) in
-      let p3 = passes (levelStands file (r .header) n) _ 4 dst (p2 .1) in
-      let p4 = passes (palettesReach (r .header) p) _ 5 dst (p3 .1) in
-      let p5 = passes (gridFits g) _ 11 dst (p4 .1) in
-      let p6 = passes (leb (reach g) (length dst)) _ 12 dst (p5 .1) in
-      let l = limited (r .header) (p0 .0) in
-      let room : reach g ≤ length dst = leb-true _ _ (p6 .0) in
-      let so : z ≡ sizesOf (closeGrid (r .header) n) = is ∙ sizes-so (r .header) n (p0 .0) (p2 .0) in
+      let a = accepted-passed r file p n (z .pitch) (z .distance) budget dst h in
+      let l = limited (r .header) (a .limits) in
+      let room : reach g ≤ length dst = leb-true _ _ (a .room) in
+      let so : z ≡ sizesOf (closeGrid (r .header) n) = is ∙ sizes-so (r .header) n (a .limits) (a .number) in
       let all : z .bytes ≤ reach g = rw so (needed (r .header) n) in (
         omega arith,
         ended-few g (l .faces) (few (r .header .width) n (l .width)) (few (r .header .height) n (l .height)) (kindOf (r .header .format))
             (shadesOf (kindOf (r .header .format)) p) budget dst
-            (run (budgeted (fromBits (levelSegment file (r .header) n))) (levelReading r g) (record { place = start; left = budget })) s c e (p6 .1),
+            (run (budgeted (fromBits (levelSegment file (r .header) n))) (levelReading r g) (record { place = start; left = budget })) s c e
+            (sym (passed-drawn r file p n (z .pitch) (z .distance) budget dst a) ∙ h),
       )
 
   pub went : {left s c : ℕ} {e : List ℕ} → Unpacks (unpacking r file p n (z .pitch) (z .distance) budget dst) budget left e (Blocks s c)
