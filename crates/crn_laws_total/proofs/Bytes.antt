@@ -1,14 +1,15 @@
 -- A painted destination, byte by byte.
-use Prim.Native.Nat.{ℕ, _-_, _<_}
+use Prim.Native.Nat.{ℕ, _+_, _-_, _≤_, _<_, min}
 use mathlib.Core.Logic.{_⊎_, inl, inr, ⊎-elim}
 use mathlib.Core.List.{List}
-use mathlib.Core.Path.{_≡_, refl, ap, _∙_}
+use mathlib.Core.Path.{_≡_, refl, sym, ap, _∙_}
 use native.Mathlib.Omega.{arith}
-use lib.ListN.{length, getD, length-replicate, getD-replicate}
+use lib.ListN.{length, getD, take, drop, length-take, length-drop, length-replicate, getD-replicate, List·getD-eq-default}
+use lib.Seq.{getD-take, getD-drop, ext-getD}
 use Rattle.crn_format.specs.Grid.{placeOf, painted, blank}
 use Rattle.crn_format.specs.declared.Grid.{Grid}
 use Rattle.crn_blocks.specs.Sheet.{In, Within, Room}
-use Rattle.crn_blocks.proofs.Places.{lies}
+use Rattle.crn_blocks.proofs.Places.{below-or, lies}
 use Rattle.crn_blocks.proofs.Bytes.{Free, look, Sized, painted-length, kept, drawn}
 use Rattle.crn_laws_total.specs.Leaves.{InBlock, Leaves}
 
@@ -42,3 +43,26 @@ pub each-byte : {g : Grid} {byte : ℕ → ℕ → ℕ → ℕ → ℕ} {b a : L
 each-byte {a = a} l i =
     ⊎-elim (λ h. inl (h, ap (λ (j : ℕ). getD a j 0) (h .here) ∙ l .blocks (h .face) (h .column) (h .row) (h .byte) (h .block) (h .small)))
     (λ out. inr (out, l .others i out)) (l .each i)
+
+-- ---- where every block lies in the first m bytes
+
+module _ {g : Grid} (m : ℕ) (low : (f x y : ℕ) → In g f x y → placeOf g f x y + g .bytes ≤ m) {byte : ℕ → ℕ → ℕ → ℕ → ℕ} {b a : List ℕ} (l : Leaves g byte b a) where
+  -- these are left as all is
+  pub first-leaves : Leaves g byte (take m b) (take m a)
+  first-leaves =
+      record {
+        long = simp length-take (ap (min m) (l .long));
+        fits = λ f x y at. simp length-take (omega (arith, low f x y at, l .fits f x y at));
+        blocks = λ f x y k at h. getD-take m a (placeOf g f x y + k) 0 (omega (arith, low f x y at)) ∙ l .blocks f x y k at h;
+        others = λ i out. ⊎-elim (λ h. getD-take m a i 0 h ∙ l .others i out ∙ sym (getD-take m b i 0 h)) (λ h. past a i h ∙ sym (past b i h)) (below-or i m);
+        each = l .each;
+      }
+    where
+      past : (xs : List ℕ) (i : ℕ) → m ≤ i → getD (take m xs) i 0 ≡ 0
+      past xs i h = List·getD-eq-default (take m xs) 0 (simp length-take (omega arith))
+
+  -- and those behind them are as before
+  pub behind-same : drop m a ≡ drop m b
+  behind-same =
+      ext-getD 0 (drop m a) (drop m b) (simp length-drop (ap (λ (n : ℕ). n - m) (l .long)))
+      (λ i _. getD-drop m a i 0 ∙ l .others (m + i) (λ h. omega (arith, h .here, h .small, low (h .face) (h .column) (h .row) (h .block))) ∙ sym (getD-drop m b i 0))

@@ -1,9 +1,8 @@
--- The same of the functions: whatever `open` and `unpack_level` answer and leave, by their own contracts, and those that have the record by its parts.
+-- The same of the functions: whatever `open` and `unpack_level` answer and leave, by their own contracts, those that have the record by its parts, and `unpack_levels`.
 use Prim.Native.Nat.{ℕ}
-use mathlib.Core.Bool.{true, false≢true}
 use mathlib.Core.Logic.{inl, inr}
 use mathlib.Core.List.{List}
-use mathlib.Core.Path.{_≡_, refl, sym, ap, subst, _∙_}
+use mathlib.Core.Path.{refl, sym, subst}
 use denote.Ref.{now}
 use Rattle.crn_format.specs.Opening.{Palettes, Opening, opened, shut, opening}
 use Rattle.crn_format.specs.Unpacking.{Unpacking, unpacking}
@@ -19,20 +18,19 @@ use Rattle.crn_drawing.specs.declared.Unpacked.{Unpacked}
 use Rattle.crn_drawing.specs.declared.Unpacked.the-variants.{Blocks, Refused}
 use Rattle.crn_level.proofs.unpack_level.Reads as unpack-level
 use Rattle.crn_level.proofs.unpack_level_by.Reads as unpack-level-by
-use Rattle.crn_laws_total.specs.Refusals.{among, openingRefusals}
-use Rattle.crn_laws_total.specs.Ends.{Says, OpeningEnds, OpenEnds, LevelEnds, UnpackEnds}
+use Rattle.crn_levels.proofs.unpack_levels.Reads as unpack-levels
+use Rattle.crn_laws_total.specs.Refusals.{openingRefusals}
+use Rattle.crn_laws_total.specs.Ends.{Says, OpeningEnds, OpenEnds, LevelEnds, UnpackEnds, SeveralEnds}
+use Rattle.crn_laws_total.proofs.Numbers.{not-zero}
 use Rattle.crn_laws_total.proofs.Opening.{opening-ends}
 use Rattle.crn_laws_total.proofs.Level.{level-ends}
-
--- no refusal has the number 0
-not-zero : {n : ℕ} → among n openingRefusals ≡ true → n ≡ 0 → ⊥
-not-zero h z = false≢true (sym (ap (λ (k : ℕ). among k openingRefusals) z) ∙ h)
+use Rattle.crn_laws_total.proofs.Several.{several-ends}
 
 module _ (lent : Palettes) where
   by-opening : (o : Opening) → OpeningEnds lent o → OpenEnds lent (buffersOf o) (toOpened o)
   by-opening (opened r after) h = record { number = inl refl; accepted = λ _. h; refused = λ z. absurd (z refl) }
   by-opening (shut n bit after) h =
-      record { number = inr (h .number); accepted = λ z. absurd (not-zero (h .number) z); refused = λ _. h }
+      record { number = inr (h .number); accepted = λ z. absurd (not-zero openingRefusals refl (h .number) z); refused = λ _. h }
 
   opens-end : (file : List ℕ) {after : Palettes} {a : Opened} → Opens (opening file lent) after a → OpenEnds lent after a
   opens-end file {after} {a} o =
@@ -72,3 +70,9 @@ pub unpack-by-ends : Says unpack-level-by.Post
     UnpackEnds (recordBy h c (now t₁) (now t₂) (now t₃) (now t₄) (now t₅)) (now file) (lentOf (now ce) (now cs) (now ae) (now al)) n pitch distance (now budget) (now dst) (now dst₁) a)
 unpack-by-ends _ (h, (c, (t₁, (t₂, (t₃, (t₄, (t₅, (file, (ce, (cs, (ae, (al, (n, (pitch, (distance, (budget, (dst, _))))))))))))))))) _ _ p =
     unpacks-end (recordBy h c (now t₁) (now t₂) (now t₃) (now t₄) (now t₅)) (now file) (lentOf (now ce) (now cs) (now ae) (now al)) n pitch distance (now budget) (now dst) p
+
+pub levels-end : Says unpack-levels.Post
+    (λ (h, (c, (t₁, (t₂, (t₃, (t₄, (t₅, (file, (ce, (cs, (ae, (al, (first, (budget, (dst, _))))))))))))))) s (_, (_, (_, (_, (_, (_, (_, (_, (_, (_, (_, (_, (_, (_, (dst₁, _))))))))))))))).
+    SeveralEnds (recordBy h c (now t₁) (now t₂) (now t₃) (now t₄) (now t₅)) (now file) (lentOf (now ce) (now cs) (now ae) (now al)) first (now budget) (now dst) (now dst₁) (s .levels) (s .refusal))
+levels-end _ (h, (c, (t₁, (t₂, (t₃, (t₄, (t₅, (file, (ce, (cs, (ae, (al, (first, (budget, (dst, _))))))))))))))) _ _ p =
+    several-ends (recordBy h c (now t₁) (now t₂) (now t₃) (now t₄) (now t₅)) (now file) (lentOf (now ce) (now cs) (now ae) (now al)) first (now budget) (now dst) p

@@ -1,8 +1,8 @@
 -- Every level ends with blocks or with one of its twelve refusals, and leaves the destination as document 01 says.
-use Prim.Native.Nat.{ℕ}
+use Prim.Native.Nat.{ℕ, _-_, _≤_}
 use mathlib.Core.Bool.{Bool, true, false}
 use mathlib.Core.List.{List, []}
-use mathlib.Core.Path.{_≡_, refl, _∙_}
+use mathlib.Core.Path.{_≡_, refl, sym, subst, _∙_}
 use native.Mathlib.Omega.{arith}
 use lib.ListN.{length, getD}
 use lib.Dec.{leb, ltb}
@@ -12,15 +12,17 @@ use Rattle.crn_format.specs.Header.{kindOf, withinLimits}
 use Rattle.crn_format.specs.Opening.{Palettes}
 use Rattle.crn_format.specs.Level.{Chunk}
 use Rattle.crn_format.specs.Grid.{Shade, color, alpha, chunkCount, insides, blockAt}
-use Rattle.crn_format.specs.Unpacking.{declined, lengthsOf, tablesHold, levelStands, levelSegment, palettesReach, gridOf, gridFits, reach, planesOf, shadesOf, ended, levelReading, drawnLevel, unpacking}
+use Rattle.crn_format.specs.Unpacking.{unpacked, declined, lengthsOf, tablesHold, levelStands, levelSegment, palettesReach, gridOf, gridFits, reach, planesOf, shadesOf, ended, levelReading, drawnLevel, unpacking}
 use Rattle.crn_format.specs.declared.Header.{Header}
 use Rattle.crn_format.specs.declared.Record.{Record}
 use Rattle.crn_format.specs.declared.Grid.{Grid}
+use Rattle.crn_format.proofs.Budget.{leftOf, left-falls}
+use Rattle.crn_format.proofs.Passing.{passed-drawn, accepted-passed}
 use Rattle.crn_blocks.specs.Sheet.{In, Room}
 use Rattle.crn_level.specs.Refusals.{firstFailed, refusalBy}
 use Rattle.crn_level.proofs.Checks.{all-checked}
 use Rattle.crn_laws_total.specs.Refusals.{among, beforeDraws, inDraws}
-use Rattle.crn_laws_total.specs.Ends.{Declined, LevelEnds}
+use Rattle.crn_laws_total.specs.Ends.{Declined, Accepted, LevelEnds}
 use Rattle.crn_laws_total.proofs.Numbers.{among-first, among-second, none-in-both}
 use Rattle.crn_laws_total.proofs.Refusing.{Stops, budget-stops}
 use Rattle.crn_laws_total.proofs.LevelReadings.{level-refuses}
@@ -129,3 +131,14 @@ module _ (r : Record) (file : List ℕ) (p : Palettes) (n pitch distance budget 
       by true true true true true false k e₁ e₂ e₃ e₄ e₅ e₆ e₇ = early 11 refl
       by true true true true true true false e₁ e₂ e₃ e₄ e₅ e₆ e₇ = early 12 refl
       by true true true true true true true e₁ e₂ e₃ e₄ e₅ e₆ e₇ = drawn-ends (has-room e₁ e₂ e₃ e₄ e₅ e₆ e₇)
+
+  -- what an accepted level's symbols leave of the budget
+  pub accepted-left : {s c : ℕ} {e : List ℕ} → unpacking r file p n pitch distance budget dst ≡ unpacked s c e → (l : Accepted r seg p g budget dst e)
+      → l .left .left ≡ budget - s
+  unfolding drawnLevel ended
+  accepted-left {s} is l =
+      let drawn = sym (passed-drawn r file p n pitch distance budget dst (accepted-passed r file p n pitch distance budget dst is)) ∙ is in
+      let few : l .left .left ≤ budget =
+      subst (λ (y : Step Spending (List Chunk)). leftOf y ≤ budget) (l .read) (left-falls (fromBits seg) (levelReading r g) (record { place = start; left = budget })) in
+      let symbols : budget - l .left .left ≡ s = cc (rw (l .read) at drawn) in
+      omega arith

@@ -7,4 +7,5 @@ pub mod Opening
 pub mod Bytes
 pub mod Sizes
 pub mod Level
+pub mod Several
 pub mod Calls

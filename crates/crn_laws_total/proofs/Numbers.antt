@@ -1,6 +1,7 @@
 -- Lists of refusal numbers: joined, and with none in common.
 use Prim.Native.Nat.{ℕ}
 use mathlib.Core.Bool.{Bool, true, false, false≢true}
+use mathlib.Core.Logic.{_⊎_, inl, inr}
 use mathlib.Core.List.{List, [], _∷_, _++_}
 use mathlib.Core.Path.{_≡_, refl, sym, ap, _∙_}
 use lib.Dec.{eqb}
@@ -24,6 +25,20 @@ module _ (n : ℕ) where
       by : (t : Bool) → among n (ms ++ ns) ≡ true → either t (among n (ms ++ ns)) ≡ true
       by true rest = refl
       by false rest = rest
+
+  -- and apart again
+  pub among-either : (ms ns : List ℕ) → among n (ms ++ ns) ≡ true → (among n ms ≡ true) ⊎ (among n ns ≡ true)
+  among-either [] ns e = inr e
+  among-either (m ∷ ms) ns e = by (eqb n m) (among-either ms ns) e
+    where
+      by : (t : Bool) → (among n (ms ++ ns) ≡ true → (among n ms ≡ true) ⊎ (among n ns ≡ true)) → either t (among n (ms ++ ns)) ≡ true
+          → (either t (among n ms) ≡ true) ⊎ (among n ns ≡ true)
+      by true rest e = inl refl
+      by false rest e = rest e
+
+-- 0 is no refusal
+pub not-zero : (ms : List ℕ) → among 0 ms ≡ false → {n : ℕ} → among n ms ≡ true → n ≡ 0 → ⊥
+not-zero ms none h z = false≢true (sym none ∙ ap (λ (k : ℕ). among k ms) (sym z) ∙ h)
 
 -- a test that none of the one is among the other
 abbrev pub apart : List ℕ → List ℕ → Bool

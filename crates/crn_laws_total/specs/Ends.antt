@@ -1,11 +1,11 @@
 -- How a call ends, whatever the file holds and whatever else it is given (demand 1): with an answer, or with a refusal numbered in
 -- document 01; and what it then leaves in what it was lent.
-use Prim.Native.Nat.{ℕ, _*_}
+use Prim.Native.Nat.{ℕ, zero, suc, _+_, _*_, _<_}
 use mathlib.Core.Bool.{Bool, true, false}
 use mathlib.Core.Logic.{_⊎_}
 use mathlib.Core.List.{List}
 use mathlib.Core.Path.{_≡_}
-use lib.ListN.{length, getD}
+use lib.ListN.{length, getD, take, drop}
 use Rattle.crn_format.specs.Reading.{Spending, start, got, run, fromBits, budgeted}
 use Rattle.crn_format.specs.Header.{kindOf}
 use Rattle.crn_format.specs.Opening.{Palettes, Opening, opened, shut, present}
@@ -19,6 +19,7 @@ use Rattle.crn_blocks.specs.Sheet.{In}
 use Rattle.crn_drawing.specs.declared.Unpacked.{Unpacked}
 use Rattle.crn_drawing.specs.declared.Unpacked.the-variants.{Blocks, Refused}
 use Rattle.crn_opening.specs.declared.opening.Opened.{Opened}
+use Rattle.crn_sizes.specs.Sizes.{levelSizes}
 use Rattle.crn_laws_total.specs.Refusals.{among, beforeStreams, inStreams, openingRefusals, beforeDraws, inDraws, levelRefusals}
 use Rattle.crn_laws_total.specs.Leaves.{Zeroed, Beyond, Leaves}
 
@@ -93,3 +94,36 @@ UnpackEnds r file p n pitch distance budget dst after (Blocks symbols cutouts) =
     Accepted r (levelSegment file (r .header) n) p (gridOf (r .header) n pitch distance) budget dst after
 UnpackEnds r file p n pitch distance budget dst after (Refused number symbols bit) =
     Declined (gridOf (r .header) n pitch distance) number dst after
+
+-- ---- several levels, each with its rows and faces close together, and its bytes behind those of the level before
+
+abbrev pub gridAt : Header → ℕ → Grid
+gridAt h n = gridOf h n (levelSizes h n .pitch) (levelSizes h n .distance)
+
+-- the bytes of k levels from n on
+abbrev pub bytesOf : Header → ℕ → ℕ → ℕ
+bytesOf h n zero = 0
+bytesOf h n (suc k) = levelSizes h n .bytes + bytesOf h (n + 1) k
+
+-- what lies behind them
+abbrev pub behind : Header → ℕ → ℕ → List ℕ → List ℕ
+behind h n k b = drop (bytesOf h n k) b
+
+-- level n is accepted in its own bytes, with which b and a begin; so much of the budget is left
+abbrev pub Stands : Record → List ℕ → Palettes → ℕ → ℕ → ℕ → List ℕ → List ℕ → Type 0
+Stands r file p n budget left b a =
+    (l : Accepted r (levelSegment file (r .header) n) p (gridAt (r .header) n) budget (own b) (own a)) × (l .left .left ≡ left)
+  where
+    own : List ℕ → List ℕ
+    own d = take (levelSizes (r .header) n .bytes) d
+
+-- of the levels from n on so many are accepted, and then the file has no more (0), or the next is refused: those before it stand, and of all that lies
+-- behind them the refused level's end tells
+pub record SeveralEnds (r : Record) (file : List ℕ) (p : Palettes) (n budget : ℕ) (b a : List ℕ) (levels refusal : ℕ) : Type 0 where
+  pub number : (refusal ≡ 0) ⊎ (among refusal levelRefusals ≡ true)
+  pub long : length a ≡ length b
+  pub budgets : ℕ → ℕ
+  pub given : budgets 0 ≡ budget
+  pub stand : (k : ℕ) → k < levels → Stands r file p (n + k) (budgets k) (budgets (suc k)) (behind (r .header) n k b) (behind (r .header) n k a)
+  pub accepted : refusal ≡ 0 → (n + levels ≡ r .header .levels) × (behind (r .header) n levels a ≡ behind (r .header) n levels b)
+  pub refused : (refusal ≡ 0 → ⊥) → Declined (gridAt (r .header) (n + levels)) refusal (behind (r .header) n levels b) (behind (r .header) n levels a)
