@@ -10,6 +10,9 @@ use Rattle.crn_utils.proofs.big24.Reads as big24
 use Rattle.crn_utils.proofs.big32.Reads as big32
 use Rattle.crn_utils.proofs.little32.Reads as little32
 use Rattle.crn_utils.proofs.little64.Reads as little64
+use Rattle.crn_bytes.proofs.eight_low.Reads as eight-low
+use Rattle.crn_bytes.proofs.eight_bytes.Reads as eight-bytes
+use Rattle.crn_bytes.proofs.last_bytes.Reads as last-bytes
 use Rattle.crn_consts.proofs.tile_count.Reads as tile-count
 use Rattle.crn_consts.specs.Tiles.{tileIn}
 use Rattle.crn_consts.proofs.tiles.Reads as tiles
@@ -79,6 +82,17 @@ little32-settled _ _ _ _ _ _ _ p q = alike p q
 
 pub little64-settled : Settled little64.Post theAnswer
 little64-settled _ _ _ _ _ _ _ p q = alike p q
+
+-- ---- crn_bytes
+
+pub eight-low-settled : Settled eight-low.Post theAnswer
+eight-low-settled _ _ _ _ _ _ _ p q = alike p q
+
+pub eight-bytes-settled : Settled eight-bytes.Post theAnswer
+eight-bytes-settled _ _ _ _ _ _ _ p q = alike p q
+
+pub last-bytes-settled : Settled last-bytes.Post theAnswer
+last-bytes-settled _ _ _ _ _ _ _ p q = alike p q
 
 -- ---- crn_consts
 

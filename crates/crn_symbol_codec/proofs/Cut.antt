@@ -12,7 +12,7 @@ use Rattle.crn_format.specs.Choice.{pick}
 use Rattle.crn_format.specs.Bits.{bitCount, bitAt, spelled}
 use Rattle.crn_format.proofs.Drawing.{bit-lt, scale}
 use Rattle.crn_symbol_codec.specs.Cursors.{cutAt}
-use Rattle.crn_symbol_codec.proofs.Bytes.{bit-past}
+use Rattle.crn_bytes.proofs.Bytes.{bit-past}
 
 cut-bit : (s : List ℕ) (e q : ℕ) → pick (ltb q e) (bitAt s q) 0 < 2
 cut-bit s e q = go (decLt q e)

@@ -11,7 +11,7 @@ use Rattle.crn_format.specs.Bits.{spelled}
 use Rattle.crn_format.proofs.Drawing.{field-lt, field-add}
 use Rattle.crn_symbol_codec.specs.declared.Cursor.{Cursor}
 use Rattle.crn_symbol_codec.specs.Cursors.{cutAt, place, past, Holds, Enough, Filled}
-use Rattle.crn_symbol_codec.proofs.Bytes.{field-front}
+use Rattle.crn_bytes.proofs.Bytes.{field-front}
 use Rattle.crn_symbol_codec.proofs.Cut.{cut-lt, cut-add, cut-front, cut-back, cut-zero, cut-short, cut-end}
 
 -- the first bits

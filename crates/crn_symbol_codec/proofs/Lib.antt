@@ -1,4 +1,3 @@
-pub mod Bytes
 pub mod Cut
 pub mod Holding
 pub mod Walking

@@ -2,11 +2,14 @@
 use Prim.Native.Nat.{ℕ, _+_, _-_, _/_, _^_, _<_, _≤_}
 use mathlib.Core.List.{List}
 use mathlib.Core.Path.{_≡_, refl, ap, ap₂, _∙_}
+use native.Mathlib.Nat.{lt-of-lt-of-le}
 use native.Mathlib.Omega.{arith}
+use lib.Pow.{pow-mono}
 use borrow.Author.Tests.{le-leb, lt-leb}
 use Rattle.crn_format.specs.Bits.{bitCount, spelled}
 use Rattle.crn_format.specs.Codes.{Drawn}
 use Rattle.crn_format.specs.Reading.{Want, aSymbol, aNumber, got, spot, ofDrawn, served}
+use Rattle.crn_format.proofs.Drawing.{field-lt}
 use Rattle.crn_symbol_codec.specs.declared.Cursor.{Cursor}
 use Rattle.crn_symbol_codec.specs.declared.Taken.{Taken}
 use Rattle.crn_symbol_codec.specs.declared.Taken.the-variants.{Value, Failed}
@@ -22,6 +25,9 @@ pub takes-at : {seg : List ℕ} {x : Want} {c d : Cursor} {r : Taken} → place 
 takes-at {seg} {x} {c} {d} {r} e t = record { same = λ b. rw e at (t .same b); holds = t .holds }
 
 -- ---- a number of n bits
+pub field-small : (s : List ℕ) (p n : ℕ) → n ≤ 16 → spelled s p n < 65536
+field-small s p n h = lt-of-lt-of-le (field-lt s p n) (pow-mono h)
+
 module _ {seg : List ℕ} {c : Cursor} {n : ℕ} (h : Holds seg c) (enough : Enough seg c 16) (few : n ≤ 16) where
   pub number-is : c .bits / 2 ^ 32 / 2 ^ (32 - n) ≡ spelled seg (place c) n
   number-is = window-twice 32 (32 - n) n (omega arith) h enough few

@@ -4,11 +4,12 @@ ghost use mathlib.Core.List.{List};
 ghost use Prim.Native.Nat.{ℕ, _+_, _*_, _<_, _≤_};
 ghost use lib.ListN.{length, getD};
 ghost use Rattle.crn_format.specs.Limits.{tooLong};
-ghost use Rattle.crn_format.specs.Bits.{spelled};
 ghost use Rattle.crn_format.specs.Reading.{aSymbol, aNumber};
 ghost use Rattle.crn_symbol_codec.specs.Cursors.{place as «placeOf», past, Holds, Enough, Filled};
 ghost use Rattle.crn_symbol_codec.specs.Taking.{refusalOf, Takes, Near};
 ghost use Rattle.crn_symbol_codec.specs.Decoders.{Usable, Decodes, shortIn, foundIn};
+use crn_bytes::eight_bytes;
+use crn_bytes::last_bytes;
 
 // The next `have` bits, at the top of `bits`, and the byte after them. Below them stand bits of the segment or 0.
 pub struct Cursor {
@@ -50,50 +51,6 @@ pub fn place(seg: &[u8], c: Cursor) -> usize
     ensures { λ r. ⌜ r ≡ «placeOf» c ⌝ }
 {
     8 * c.next - c.have as usize
-}
-
-// A byte of the segment, as a number to count with.
-fn from_u8(x: u8) -> u64
-    ensures { λ r. ⌜ (r ≡ x) × (r < 256) ⌝ }
-{
-    x as u64
-}
-
-// Four bytes as one number.
-fn four_bytes(seg: &[u8], i: usize) -> u64
-    requires { ⌜ i + 4 ≤ length (now seg) ⌝ }
-    ensures { λ r. ⌜ (r ≡ spelled (now (seg .entry)) (8 * i) 32) × (r < 4294967296) ⌝ }
-{
-    from_u8(seg[i]) * 16777216
-        + from_u8(seg[i + 1]) * 65536
-        + from_u8(seg[i + 2]) * 256
-        + from_u8(seg[i + 3])
-}
-
-// Eight bytes as one number. (The compiler makes one load of it.)
-fn eight_bytes(seg: &[u8], i: usize) -> u64
-    requires { ⌜ i + 8 ≤ length (now seg) ⌝ }
-    ensures { λ r. ⌜ r ≡ spelled (now (seg .entry)) (8 * i) 64 ⌝ }
-{
-    four_bytes(seg, i) * 4294967296 + four_bytes(seg, i + 4)
-}
-
-// The last bytes, of which there are fewer than eight, with 0 after them. (A loop, and no eight guarded bytes: the compiler leaves
-// a long `refill` out of line.)
-fn last_bytes(seg: &[u8], i: usize) -> u64
-    requires { ⌜ (i ≤ length (now seg)) × (length (now seg) < i + 8) ⌝ }
-    ensures { λ r. ⌜ r ≡ spelled (now (seg .entry)) (8 * i) 64 ⌝ }
-{
-    let mut w: u64 = 0;
-    let mut k: usize = i;
-    while k < seg.len() {
-        w = w * 256 + from_u8(seg[k]);
-        k += 1;
-    }
-    if k == i {
-        return 0;
-    }
-    w << (8 * (8 - (k - i)))
 }
 
 // A refill where fewer than eight bytes are left.

@@ -2,8 +2,7 @@
 use native.Mathlib.Omega.{arith}
 use borrow.Author.Needs.{needs}
 use Rattle.crn_symbol_codec.specs.Cursors.{place, Enough}
-use Rattle.crn_symbol_codec.proofs.Bytes.{field-small}
-use Rattle.crn_symbol_codec.proofs.Taking.{number-is, takes-number}
+use Rattle.crn_symbol_codec.proofs.Taking.{field-small, number-is, takes-number}
 use Rattle.crn_short_draw.proofs.number.Statement.{statement}
 use Rattle.crn_short_draw.proofs.number.Tie as tie
 

@@ -1,8 +1,7 @@
 -- A number is the buffer's first bits, or there are too few of them.
 use native.Mathlib.Omega.{arith}
 use borrow.Author.Needs.{needs}
-use Rattle.crn_symbol_codec.proofs.Bytes.{field-small}
-use Rattle.crn_symbol_codec.proofs.Taking.{number-is, takes-number, number-ended}
+use Rattle.crn_symbol_codec.proofs.Taking.{field-small, number-is, takes-number, number-ended}
 use Rattle.crn_symbol_codec.specs.Cursors.{place}
 use Rattle.crn_symbol_codec.proofs.number_ready.Statement.{statement}
 use Rattle.crn_symbol_codec.proofs.number_ready.Tie as tie

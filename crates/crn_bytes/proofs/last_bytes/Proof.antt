@@ -5,27 +5,27 @@ use native.Mathlib.Omega.{arith}
 use lib.ListN.{length}
 use borrow.Author.Needs.{needs}
 use Rattle.crn_format.specs.Bits.{spelled}
-use Rattle.crn_symbol_codec.proofs.Bytes.{field-past, byte-more, all-bytes, no-byte, few-bytes}
-use Rattle.crn_symbol_codec.proofs.last_bytes.Statement.{statement}
-use Rattle.crn_symbol_codec.proofs.last_bytes.Tie as tie
+use Rattle.crn_bytes.proofs.Bytes.{field-past, byte-more, all-bytes, no-byte, few-bytes}
+use Rattle.crn_bytes.proofs.last_bytes.Statement.{statement}
+use Rattle.crn_bytes.proofs.last_bytes.Tie as tie
 
 abbrev Inv-loop : tie.InvT-loop
-Inv-loop seg i w₀ k₀ w k = (i ≤ k) × (k ≤ length seg) × (w ≡ spelled seg (8 * i) (8 * (k - i)))
+Inv-loop s i w₀ k₀ w k = (i ≤ k) × (k ≤ length s) × (w ≡ spelled s (8 * i) (8 * (k - i)))
 
 abbrev μ-loop : tie.MeasureT-loop
-μ-loop seg i w₀ k₀ w k = length seg - k
+μ-loop s i w₀ k₀ w k = length s - k
 
 loop-holds : tie.Need-loop-holds Inv-loop μ-loop
 loop-holds c =
     let g = c .before .args in
-    (omega arith, omega arith, no-byte (g .seg .now) (g .i))
+    (omega arith, omega arith, no-byte (g .s .now) (g .i))
 
 mul-w : tie.Need-mul-w Inv-loop μ-loop
 mul-w c =
     let a = c .before in
     let st = a .before .before in
     let g = st .args in
-    omega (arith, few-bytes (g .seg .now) (g .i) (a .loop .k) (omega arith), a .loop .inv .2)
+    omega (arith, few-bytes (g .s .now) (g .i) (a .loop .k) (omega arith), a .loop .inv .2)
 
 shared-slice-read-from-u8 : tie.Need-shared-slice-read-from-u8 Inv-loop μ-loop
 shared-slice-read-from-u8 c = search needs
@@ -38,7 +38,7 @@ add-w c =
     let a = c .before .before .before in
     let st = a .before .before in
     let g = st .args in
-    omega (arith, few-bytes (g .seg .now) (g .i) (a .loop .k) (omega arith), a .loop .inv .2)
+    omega (arith, few-bytes (g .s .now) (g .i) (a .loop .k) (omega arith), a .loop .inv .2)
 
 add-k : tie.Need-add-k Inv-loop μ-loop
 add-k c = search needs
@@ -51,14 +51,14 @@ loop-again c =
     let a = c .before .before .before in
     let st = a .before .before in
     let g = st .args in
-    (omega arith, omega arith, omega (arith, byte-more (g .seg .now) (g .i) (a .loop .k) (a .loop .inv .0) (omega arith), a .loop .inv .2))
+    (omega arith, omega arith, omega (arith, byte-more (g .s .now) (g .i) (a .loop .k) (a .loop .inv .0) (omega arith), a .loop .inv .2))
 
 returns : tie.Need-returns Inv-loop μ-loop
 returns c =
     let a = c .before .before in
     let st = a .before .before in
     let g = st .args in
-    sym (field-past (g .seg .now) (8 * g .i) 64 (omega arith))
+    sym (field-past (g .s .now) (8 * g .i) 64 (omega arith))
 
 sub-result : tie.Need-sub-result Inv-loop μ-loop
 sub-result c = search needs
@@ -78,7 +78,7 @@ returns-2 c =
     let st = a .before .before in
     let g = st .args in
     ap (λ (x : ℕ). x * 2 ^ (8 * (8 - (a .loop .k - g .i))) % 18446744073709551616) (a .loop .inv .2)
-    ∙ all-bytes (g .seg .now) (g .i) (a .loop .k) (a .loop .inv .0) (omega arith) (omega arith)
+    ∙ all-bytes (g .s .now) (g .i) (a .loop .k) (a .loop .inv .0) (omega arith) (omega arith)
 
 pub last-bytes-spec : {M : Type 1} → statement M
 last-bytes-spec =

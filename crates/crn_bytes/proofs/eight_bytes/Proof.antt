@@ -1,9 +1,9 @@
 -- Eight bytes are the number that their 64 bits spell.
 use native.Mathlib.Omega.{arith}
 use borrow.Author.Needs.{needs}
-use Rattle.crn_symbol_codec.proofs.Bytes.{by-eight}
-use Rattle.crn_symbol_codec.proofs.eight_bytes.Statement.{statement}
-use Rattle.crn_symbol_codec.proofs.eight_bytes.Tie as tie
+use Rattle.crn_bytes.proofs.Bytes.{by-eight}
+use Rattle.crn_bytes.proofs.eight_bytes.Statement.{statement}
+use Rattle.crn_bytes.proofs.eight_bytes.Tie as tie
 
 four-bytes-requires : tie.Need-four-bytes-requires
 four-bytes-requires c κs = search needs
@@ -23,7 +23,7 @@ add-result c = search needs
 returns : tie.Need-returns
 returns c =
     let a = c .before .before .before .args in
-    omega (arith, by-eight (a .seg .now) (a .i))
+    omega (arith, by-eight (a .s .now) (a .i))
 
 pub eight-bytes-spec : {M : Type 1} → statement M
 eight-bytes-spec =
