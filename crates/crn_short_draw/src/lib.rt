@@ -50,7 +50,8 @@ pub fn draw(lookup: &[u32], sorted: &[u16], seg: &[u8], c: Cursor) -> Taken
     }
     let width = lookup[0] as u64;
     let i = (c.bits >> (64 - width)) as usize;
-    let e = lookup[32 + i];
+    let entries = &lookup[32..];
+    let e = entries[i];
     if e == 0 {
         return crn_symbol_codec::draw(
             lookup,

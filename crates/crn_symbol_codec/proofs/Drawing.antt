@@ -3,7 +3,7 @@ use Prim.Native.Nat.{ℕ, _+_, _-_, _/_, _%_, _^_, _<_, _≤_}
 use mathlib.Core.List.{List}
 use mathlib.Core.Path.{_≡_, refl, sym, ap, _∙_}
 use native.Mathlib.Omega.{arith}
-use lib.ListN.{length, getD}
+use lib.ListN.{length, getD, take, drop}
 use borrow.Author.Tests.{le-leb, lt-leb}
 use Rattle.crn_format.specs.Bits.{bitCount, spelled}
 use Rattle.crn_format.specs.Codes.{symbolAt}
@@ -75,7 +75,7 @@ module _ {lookup sorted seg : List ℕ} {c : Cursor} (h : Holds seg c) (enough :
   pub in-entries : 32 + c .bits / 2 ^ (64 - widthIn lookup) < length lookup
   in-entries = within-entries u (c .bits) fits
 
-  module _ (e : ℕ) (is : e ≡ getD lookup (32 + c .bits / 2 ^ (64 - widthIn lookup)) 0) (some : e ≡ 0 → ⊥) where
+  module _ (e : ℕ) (is : e ≡ getD (take (length lookup - 32) (drop 32 lookup)) (c .bits / 2 ^ (64 - widthIn lookup)) 0) (some : e ≡ 0 → ⊥) where
     found : e ≡ foundIn lookup sorted (c .bits)
     found =
         let short = is ∙ entry-short u (c .bits) fits in

@@ -5,11 +5,11 @@ use mathlib.Core.Path.{_≡_, refl, sym, ap, _∙_}
 use native.Mathlib.Decide.{decLt, decLe, ℕ-discrete}
 use native.Mathlib.Omega.{arith}
 use native.Mathlib.Nat.{add-zero, lt-of-lt-of-le}
-use lib.ListN.{length, getD, length-drop}
-use lib.Seq.{getD-drop}
+use lib.ListN.{length, getD, take, drop, length-drop}
+use lib.Seq.{getD-drop, take-all}
 use lib.Pow.{shr-lt, shr-shr, pow-mono}
 use borrow.Author.Tests.{lt-ltb, le-ltb}
-use Rattle.crn_symbol_codec.specs.Decoders.{widthIn, longestIn, firstIn, offsetIn, countsIn, find, front, foundIn, shortIn, firstBy, offBy, Usable}
+use Rattle.crn_symbol_codec.specs.Decoders.{widthIn, longestIn, firstIn, offsetIn, countsIn, entriesIn, find, front, foundIn, shortIn, firstBy, offBy, Usable}
 use Rattle.crn_symbol_codec.proofs.Finding.{first-step, off-step, missed, find-none, off-small}
 
 -- ---- over any bits, of which g l are the first l
@@ -87,6 +87,13 @@ double bits j h =
 pub front-twice : (bits a b l : ℕ) → a + b ≡ 64 - l → bits / 2 ^ a / 2 ^ b ≡ front 64 bits l
 front-twice bits a b l e = shr-shr bits a b ∙ ap (λ (k : ℕ). bits / 2 ^ k) e
 
+-- the entries, as a slice
+entries-whole : (lookup : List ℕ) → take (length lookup - 32) (drop 32 lookup) ≡ entriesIn lookup
+entries-whole lookup = take-all (length lookup - 32) (drop 32 lookup) (omega (arith, length-drop 32 lookup))
+
+pub entries-length : (lookup : List ℕ) → length (take (length lookup - 32) (drop 32 lookup)) ≡ length lookup - 32
+entries-length lookup = ap length (entries-whole lookup) ∙ length-drop 32 lookup
+
 module _ {lookup sorted : List ℕ} (u : Usable lookup sorted) where
   -- ---- the entry of the first bits
 
@@ -99,9 +106,9 @@ module _ {lookup sorted : List ℕ} (u : Usable lookup sorted) where
     pub within-entries : 32 + front 64 bits (widthIn lookup) < length lookup
     within-entries = omega (arith, index, u .entries .long, length-drop 32 lookup)
 
-    pub entry-short : getD lookup (32 + front 64 bits (widthIn lookup)) 0 ≡ shortIn lookup sorted bits
+    pub entry-short : getD (take (length lookup - 32) (drop 32 lookup)) (front 64 bits (widthIn lookup)) 0 ≡ shortIn lookup sorted bits
     entry-short =
-        sym (getD-drop 32 lookup (front 64 bits (widthIn lookup)) 0)
+        ap (λ (es : List ℕ). getD es (front 64 bits (widthIn lookup)) 0) (entries-whole lookup)
         ∙ u .entries .each (front 64 bits (widthIn lookup)) index
         ∙ find-cong (countsIn lookup) sorted (widthIn lookup)
         (λ j h. front-twice bits (64 - widthIn lookup) (widthIn lookup - j) j (omega (arith, u .few))) (widthIn lookup) 0 0 0 (omega arith)

@@ -163,14 +163,16 @@ fn long_entry(lookup: &[u32], sorted: &[u16], bits: u64) -> u32
 }
 
 // The code that the bits begin with: 32 times its symbol plus its length, or 0 where they begin with none. Its first bits are looked up;
-// a plain number comes back, so that a loop which draws keeps it in a register.
+// a plain number comes back, so that a loop which draws keeps it in a register. The entries are a slice of their own, whose address such a
+// loop keeps too.
 pub fn entry(lookup: &[u32], sorted: &[u16], bits: u64) -> u32
     requires { ⌜ Usable (now lookup) (now sorted) ⌝ }
     ensures { λ r. ⌜ r ≡ foundIn (now (lookup .entry)) (now (sorted .entry)) bits ⌝ }
 {
     let width = lookup[0] as u64;
     let i = (bits >> (64 - width)) as usize;
-    let e = lookup[32 + i];
+    let entries = &lookup[32..];
+    let e = entries[i];
     if e == 0 {
         return long_entry(lookup, sorted, bits);
     }
