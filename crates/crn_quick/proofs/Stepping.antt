@@ -27,23 +27,23 @@ use Rattle.crn_quick.specs.Quick.{streamAt, Found, Stepped}
 -- lk and so are the decoder table of number `which`, e is what the cursor's bits begin with
 module _ (lookup sorted : List ℕ) {seg lk so : List ℕ} (ps : Planes) (which : ℕ) (decodes : (cs : ℕ → List ℕ) → Coded cs ps lookup sorted → Decodes (cs which) lk so) (u : Usable lk so)
     {c : Cursor} (h : Holds seg c) (enough : 16 ≤ c .have) {e : ℕ} (is : e ≡ foundIn lk so (c .bits)) (some : e ≡ 0 → ⊥) where
-  pub code-short : e % 32 ≤ 16
+  pub code-short : e % 64 ≤ 16
   code-short = found-length h (λ few. absurd (omega arith)) u e is some
 
-  pub code-passed : place (past c (e % 32)) ≡ place c + e % 32
+  pub code-passed : place (past c (e % 64)) ≡ place c + e % 64
   code-passed = place-past h (omega (arith, code-short))
 
-  pub code-holds : Holds seg (past c (e % 32))
+  pub code-holds : Holds seg (past c (e % 64))
   code-holds = after-drop h (omega (arith, code-short))
 
   drawn : (b l m : ℕ) → l ≡ m + 1 → (cs : ℕ → List ℕ) → Coded cs ps lookup sorted
-      → run (source seg) (symbol (cs which)) (spending (streamAt c b l)) ≡ got (e / 32) (spending (streamAt (past c (e % 32)) (place c) m))
+      → run (source seg) (symbol (cs which)) (spending (streamAt c b l)) ≡ got (e / 64) (spending (streamAt (past c (e % 64)) (place c) m))
   drawn b l m f cs k =
       let r = found-drawn h (λ few. absurd (omega arith)) u e is some (omega (arith, code-short)) in
       let q : l - 1 ≡ m = omega arith in
       rw q at (symbol-drawn (streamAt c b l) (takes-symbol r (decodes cs k)) (λ z. omega arith) {at = place c} refl refl)
 
-  pub found : e / 32 < farthest → Found lookup sorted seg ps which c (record { cursor = past c (e % 32); number = e / 32; length = e % 32; lost = false })
+  pub found : e / 64 < farthest → Found lookup sorted seg ps which c (record { cursor = past c (e % 64); number = e / 64; length = e % 64; lost = false })
   found n =
       record {
         drawn = λ z b l m f. record { same = λ cs k. sym (drawn b l m f cs k); on = (code-holds, n) };

@@ -139,7 +139,7 @@ fn quick_symbol(
     if e == 0 {
         return no_step(c);
     }
-    let length = (e % 32) as u64;
+    let length = (e % 64) as u64;
     let cursor = Cursor {
         bits: bits << length,
         have: have - length,
@@ -147,7 +147,7 @@ fn quick_symbol(
     };
     Step {
         cursor,
-        number: (e / 32) as u64,
+        number: (e / 64) as u64,
         length,
         lost: false,
     }

@@ -64,11 +64,11 @@ pub fn draw(lookup: &[u32], sorted: &[u16], seg: &[u8], c: Cursor) -> Taken
             },
         );
     }
-    let l = (e % 32) as u64;
+    let l = (e % 64) as u64;
     let bits = c.bits << l;
     let have = c.have - l;
     Taken::Value(
-        e / 32,
+        e / 64,
         Cursor {
             bits,
             have,

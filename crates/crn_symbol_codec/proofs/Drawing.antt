@@ -28,23 +28,23 @@ module _ {lookup sorted seg : List ℕ} {c : Cursor} (h : Holds seg c) (enough :
   -- ---- where the bits begin with a code
 
   module _ (e : ℕ) (is : e ≡ foundIn lookup sorted (c .bits)) (some : e ≡ 0 → ⊥) where
-    said : (walked lookup sorted seg (place c) ≡ ifThere seg (place c) (e / 32) (e % 32)) × (0 < e % 32) × (e % 32 ≤ longestIn lookup)
+    said : (walked lookup sorted seg (place c) ≡ ifThere seg (place c) (e / 64) (e % 64)) × (0 < e % 64) × (e % 64 ≤ longestIn lookup)
     said = hit (countsIn lookup) sorted seg (place c) (longestIn lookup) (longestIn lookup) (omega arith) (front 64 (c .bits)) firsts e (omega (arith, u .most)) is some
 
-    pub found-length : e % 32 ≤ 16
+    pub found-length : e % 64 ≤ 16
     found-length = omega (arith, said .2, u .most)
 
-    pub found-ended : c .have < e % 32 → Draws lookup sorted seg c (Failed 8)
+    pub found-ended : c .have < e % 64 → Draws lookup sorted seg c (Failed 8)
     found-ended l =
         let n : length seg ≤ c .next = enough (omega (arith, found-length)) in
-        let k : bitCount seg < place c + e % 32 = omega (arith, h .behind) in
+        let k : bitCount seg < place c + e % 64 = omega (arith, h .behind) in
         record { same = sym (said .0 ∙ simp (lt-leb _ _ k)); holds = tt; near = tt }
 
-    pub found-drawn : e % 32 ≤ c .have → Draws lookup sorted seg c (Value (e / 32) (past c (e % 32)))
+    pub found-drawn : e % 64 ≤ c .have → Draws lookup sorted seg c (Value (e / 64) (past c (e % 64)))
     found-drawn l =
-        let k : place c + e % 32 ≤ bitCount seg = omega (arith, h .behind, h .within) in
+        let k : place c + e % 64 ≤ bitCount seg = omega (arith, h .behind, h .within) in
         record {
-          same = ap (symbolAt (e / 32)) (place-past h l) ∙ sym (said .0 ∙ simp (le-leb _ _ k));
+          same = ap (symbolAt (e / 64)) (place-past h l) ∙ sym (said .0 ∙ simp (le-leb _ _ k));
           holds = after-drop h l;
           near = (refl, omega (arith, found-length));
         }
@@ -81,8 +81,8 @@ module _ {lookup sorted seg : List ℕ} {c : Cursor} (h : Holds seg c) (enough :
         let short = is ∙ entry-short u (c .bits) fits in
         short ∙ short-found u (c .bits) (λ z. some (short ∙ z))
 
-    pub entry-length : e % 32 ≤ 16
+    pub entry-length : e % 64 ≤ 16
     entry-length = found-length e found some
 
-    pub entry-found : e % 32 ≤ c .have → Draws lookup sorted seg c (Value (e / 32) (past c (e % 32)))
+    pub entry-found : e % 64 ≤ c .have → Draws lookup sorted seg c (Value (e / 64) (past c (e % 64)))
     entry-found l = found-drawn e found some l

@@ -50,7 +50,7 @@ missed cs ss g n k e = go (decLt (g (k + 1)) (firstBy cs k + getD cs (k + 1) 0))
 module _ (cs ss s : List ℕ) (p w : ℕ) (g : ℕ → ℕ) (same : (j : ℕ) → j ≤ w → g j ≡ spelled s p j) where
   -- ---- an entry that is not 0
 
-  by-entry : (n m k f o y l : ℕ) → k + n ≤ w → n ≤ m → 0 < l → l < 32 → w < 32 → find cs ss g n k f o ≡ 32 * y + l
+  by-entry : (n m k f o y l : ℕ) → k + n ≤ w → n ≤ m → 0 < l → l < 64 → w < 64 → find cs ss g n k f o ≡ 64 * y + l
       → (walk cs ss s p m k f o ≡ ifThere s p y l) × (k < l) × (l ≤ k + n)
   unfolding find walk
   by-entry zero m k f o y l a b pos low sm e = absurd (omega arith)
@@ -62,7 +62,7 @@ module _ (cs ss s : List ℕ) (p w : ℕ) (g : ℕ → ℕ) (same : (j : ℕ) �
       gk : g (k + 1) ≡ spelled s p (k + 1)
       gk = same (k + 1) (omega arith)
 
-      go : (find cs ss g n (k + 1) (2 * (f + getD cs (k + 1) 0)) (o + getD cs (k + 1) 0) ≡ 32 * y + l
+      go : (find cs ss g n (k + 1) (2 * (f + getD cs (k + 1) 0)) (o + getD cs (k + 1) 0) ≡ 64 * y + l
           → (walk cs ss s p m (k + 1) (2 * (f + getD cs (k + 1) 0)) (o + getD cs (k + 1) 0) ≡ ifThere s p y l) × (k + 1 < l) × (l ≤ k + 1 + n))
           → Dec (g (k + 1) < f + getD cs (k + 1) 0) → Dec (p + (k + 1) ≤ bitCount s)
           → (walk cs ss s p (suc m) k f o ≡ ifThere s p y l) × (k < l) × (l ≤ k + suc n)
@@ -81,13 +81,13 @@ module _ (cs ss s : List ℕ) (p w : ℕ) (g : ℕ → ℕ) (same : (j : ℕ) �
           (simp (lt-leb (p + (k + 1)) (bitCount s) (omega arith), lt-leb (p + l) (bitCount s) (omega (arith, r .1))), omega (arith, r .1), omega (arith, r .2))
 
   -- such an entry has a length in it
-  find-shape : (n k f o : ℕ) → k + n < 32 → find cs ss g n k f o % 32 ≡ 0 → find cs ss g n k f o ≡ 0
+  find-shape : (n k f o : ℕ) → k + n < 64 → find cs ss g n k f o % 64 ≡ 0 → find cs ss g n k f o ≡ 0
   unfolding find
   find-shape zero k f o a e = refl
   find-shape (suc n) k f o a e =
       go (find-shape n (k + 1) (2 * (f + getD cs (k + 1) 0)) (o + getD cs (k + 1) 0) (omega arith)) (decLt (g (k + 1)) (f + getD cs (k + 1) 0))
     where
-      go : (find cs ss g n (k + 1) (2 * (f + getD cs (k + 1) 0)) (o + getD cs (k + 1) 0) % 32 ≡ 0
+      go : (find cs ss g n (k + 1) (2 * (f + getD cs (k + 1) 0)) (o + getD cs (k + 1) 0) % 64 ≡ 0
           → find cs ss g n (k + 1) (2 * (f + getD cs (k + 1) 0)) (o + getD cs (k + 1) 0) ≡ 0)
           → Dec (g (k + 1) < f + getD cs (k + 1) 0) → find cs ss g (suc n) k f o ≡ 0
       go ih (yes v) = absurd (omega (arith, simp (lt-ltb _ _ v) at e))
@@ -121,18 +121,18 @@ module _ (cs ss s : List ℕ) (p w : ℕ) (g : ℕ → ℕ) (same : (j : ℕ) �
 
 module _ (cs ss s : List ℕ) (p m w : ℕ) (wm : w ≤ m) (g : ℕ → ℕ) (same : (j : ℕ) → j ≤ w → g j ≡ spelled s p j) where
   -- an entry e that is not 0 says what the walk finds
-  pub hit : (e : ℕ) → w < 32 → e ≡ find cs ss g w 0 0 0 → (e ≡ 0 → ⊥)
-      → (walk cs ss s p m 0 0 0 ≡ ifThere s p (e / 32) (e % 32)) × (0 < e % 32) × (e % 32 ≤ w)
+  pub hit : (e : ℕ) → w < 64 → e ≡ find cs ss g w 0 0 0 → (e ≡ 0 → ⊥)
+      → (walk cs ss s p m 0 0 0 ≡ ifThere s p (e / 64) (e % 64)) × (0 < e % 64) × (e % 64 ≤ w)
   hit e sm is some =
-      let some-length = pos (decLt 0 (e % 32)) in
-      let r = by-entry cs ss s p w g same w m 0 0 0 (e / 32) (e % 32) (omega arith) wm some-length (omega arith) sm (sym is ∙ omega arith) in
+      let some-length = pos (decLt 0 (e % 64)) in
+      let r = by-entry cs ss s p w g same w m 0 0 0 (e / 64) (e % 64) (omega arith) wm some-length (omega arith) sm (sym is ∙ omega arith) in
       (r .0, r .1, omega (arith, r .2))
     where
-      pos : Dec (0 < e % 32) → 0 < e % 32
+      pos : Dec (0 < e % 64) → 0 < e % 64
       pos (yes h) = h
       pos (no h) = absurd (some (is ∙ find-shape cs ss s p w g same w 0 0 0 (omega arith) (rw is at (low h))))
         where
-          low : (0 < e % 32 → ⊥) → e % 32 ≡ 0
+          low : (0 < e % 64 → ⊥) → e % 64 ≡ 0
           low q = omega arith
 
   -- where it is 0 the walk goes on from the length w

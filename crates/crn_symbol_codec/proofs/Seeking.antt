@@ -63,7 +63,7 @@ module _ (cs ss : List ℕ) (g : ℕ → ℕ) where
     left : m - k ≡ suc (m - (k + 1))
     left = omega arith
 
-    find-here : g (k + 1) < f + getD cs (k + 1) 0 → find cs ss g (m - k) k f o ≡ 32 * getD ss (o + (g (k + 1) - f)) 0 + (k + 1)
+    find-here : g (k + 1) < f + getD cs (k + 1) 0 → find cs ss g (m - k) k f o ≡ 64 * getD ss (o + (g (k + 1) - f)) 0 + (k + 1)
     unfolding find
     find-here h = rw left (simp (lt-ltb _ _ h))
 
@@ -173,7 +173,7 @@ module _ {lookup sorted : List ℕ} (u : Usable lookup sorted) {bits : ℕ} wher
       count-is : n ≡ getD (countsIn lookup) (k + 1) 0
       count-is = n-is ∙ sym (getD-drop 8 lookup (k + 1) 0)
 
-      pub long-found : v < first + n → 32 * getD sorted (offset + (v - first)) 0 + (k + 1) ≡ foundIn lookup sorted bits
+      pub long-found : v < first + n → 64 * getD sorted (offset + (v - first)) 0 + (k + 1) ≡ foundIn lookup sorted bits
       long-found b =
           let g : front 64 bits (k + 1) < first + getD (countsIn lookup) (k + 1) 0 = omega (arith, v-is, count-is) in
           rw v-is (sym (find-here (countsIn lookup) sorted (front 64 bits) first offset l g) ∙ t .same)

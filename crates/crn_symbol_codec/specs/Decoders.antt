@@ -1,7 +1,8 @@
 -- Decoder tables: what a draw goes by. Of a code with the lengths ls there are
 --   `lookup`, words: [0] how many first bits are looked up, w; [1] the longest code's length; [2] and [3] the first code of more than w bits,
 --     less its last bits, and where its symbol stands in `sorted`; [8 + l] how many codes have l bits; and from 32 on, for each number of w bits,
---     32 times the symbol whose code begins it plus the code's length, or 0 where no code of at most w bits does;
+--     64 times the symbol whose code begins it plus the code's length, or 0 where no code of at most w bits does (64, since a processor's
+--     shift takes the six lowest bits of a number: the bits are shifted by the entry as it is);
 --   `sorted`: the symbols that have a code, by length and then by symbol.
 use Prim.Native.Nat.{ℕ, zero, suc, _+_, _-_, _*_, _/_, _^_, _<_, _≤_}
 use mathlib.Core.Path.{_≡_}
@@ -44,12 +45,12 @@ walk cs ss s p (suc n) k f o =
     (walk cs ss s p n (k + 1) (2 * (f + getD cs (k + 1) 0)) (o + getD cs (k + 1) 0)))
     (failed 8)
 
--- the same by the bits alone, of which g l are the first l: 32 times the symbol plus the length, or 0
+-- the same by the bits alone, of which g l are the first l: 64 times the symbol plus the length, or 0
 unfoldable pub find : List ℕ → List ℕ → (ℕ → ℕ) → ℕ → ℕ → ℕ → ℕ → ℕ
 find cs ss g zero k f o = 0
 find cs ss g (suc n) k f o =
     pick (ltb (g (k + 1)) (f + getD cs (k + 1) 0))
-    (32 * getD ss (o + (g (k + 1) - f)) 0 + (k + 1))
+    (64 * getD ss (o + (g (k + 1) - f)) 0 + (k + 1))
     (find cs ss g n (k + 1) (2 * (f + getD cs (k + 1) 0)) (o + getD cs (k + 1) 0))
 
 -- the first l of the w bits of i
@@ -65,7 +66,7 @@ unfoldable pub offBy : List ℕ → ℕ → ℕ
 offBy cs zero = 0
 offBy cs (suc k) = offBy cs k + getD cs (k + 1) 0
 
--- what the 64 bits `bits` begin with, by the table: 32 times a symbol plus its code's length, or 0
+-- what the 64 bits `bits` begin with, by the table: 64 times a symbol plus its code's length, or 0
 abbrev pub foundIn : List ℕ → List ℕ → ℕ → ℕ
 foundIn lookup sorted bits = find (countsIn lookup) sorted (front 64 bits) (longestIn lookup) 0 0 0
 

@@ -154,7 +154,7 @@ fn long_entry(lookup: &[u32], sorted: &[u16], bits: u64) -> u32
         let v = window >> (16 - k);
         let n = lookup[8 + k as usize];
         if v < first + n {
-            return 32 * symbol(sorted, (offset + (v - first)) as usize) + k as u32;
+            return 64 * symbol(sorted, (offset + (v - first)) as usize) + k as u32;
         }
         first = 2 * (first + n);
         offset += n;
@@ -162,7 +162,7 @@ fn long_entry(lookup: &[u32], sorted: &[u16], bits: u64) -> u32
     0
 }
 
-// The code that the bits begin with: 32 times its symbol plus its length, or 0 where they begin with none. Its first bits are looked up;
+// The code that the bits begin with: 64 times its symbol plus its length, or 0 where they begin with none. Its first bits are looked up;
 // a plain number comes back, so that a loop which draws keeps it in a register. The entries are a slice of their own, whose address such a
 // loop keeps too.
 pub fn entry(lookup: &[u32], sorted: &[u16], bits: u64) -> u32
@@ -192,11 +192,11 @@ pub fn draw_ready(lookup: &[u32], sorted: &[u16], seg: &[u8], c: Cursor) -> Take
         }
         return Taken::Failed(7);
     }
-    let l = (e % 32) as u64;
+    let l = (e % 64) as u64;
     if c.have < l {
         return Taken::Failed(8);
     }
-    Taken::Value(e / 32, skip(c, l))
+    Taken::Value(e / 64, skip(c, l))
 }
 
 // A symbol. Bits that are missing are never made up: 8 where the segment ends first, 7 where its bits begin no code.

@@ -111,7 +111,7 @@ add-result c = omega (arith, c .symbol .ensures .1, c .before .before .before .b
 returns : tie.Need-returns Inv-loop μ-loop
 returns c =
     let a = c .before .before .before .before in
-    ap (λ (y : _). 32 * y + (a .loop .k + 1)) (c .symbol .ensures .0)
+    ap (λ (y : _). 64 * y + (a .loop .k + 1)) (c .symbol .ensures .0)
     ∙ long-found (entry a .pre .0) (a .loop .inv) _ _ (omega arith) (bits a (omega arith)) refl (omega arith)
 
 add-first : tie.Need-add-first Inv-loop μ-loop
