@@ -1,7 +1,7 @@
 -- Indices by the quick way, one after the other: those of the tiles and those of the positions.
-use Prim.Native.Nat.{ℕ, zero, suc, _+_, _*_, _-_, _≤_, _<_}
+use Prim.Native.Nat.{ℕ, _+_, _-_, _≤_, _<_}
 use mathlib.Core.Bool.{Bool, true, false}
-use mathlib.Core.List.{List}
+use mathlib.Core.List.{List, []}
 use mathlib.Core.Path.{_≡_, refl, sym, ap, _∙_}
 use native.Mathlib.Omega.{arith}
 use lib.ListN.{length, getD, set, drop}
@@ -9,20 +9,19 @@ use Rattle.crn_format.specs.Reading.{spot, run}
 use Rattle.crn_format.specs.Level.{endpointIndices, positionSelectors}
 use Rattle.crn_symbol_codec.specs.Cursors.{place, Holds}
 use Rattle.crn_symbol_codec.specs.declared.Cursor.{Cursor}
-use Rattle.crn_chunks.specs.Meaning.{source, spending, row, planeOf, planes, Served, Named, Small, most}
-use Rattle.crn_chunks.specs.Parts.{Draws, indexOf, reach, Picks, rowsTo, tilesAt}
+use Rattle.crn_chunks.specs.Meaning.{source, row, planeOf, planes, most}
+use Rattle.crn_chunks.specs.Parts.{Tiled, Picks, rowsTo}
 use Rattle.crn_chunks.specs.Reads.{insideOf}
 use Rattle.crn_chunks.specs.declared.Side.{Side}
 use Rattle.crn_chunks.specs.declared.Planes.{Planes}
-use Rattle.crn_chunks.specs.declared.Drew.the-variants.{Got}
-use Rattle.crn_chunks.specs.declared.Paired.the-variants.{Pair}
+use Rattle.crn_chunks.specs.declared.Drew.{Drew}
 use Rattle.crn_chunks.proofs.Tiling.{Tiling, tiling-none, tiling-more, tiling-done, tiles-one, tiles-two}
 use Rattle.crn_chunks.proofs.Picking.{Picking, picking-none, picking-more, picking-done, picks-one, picks-two}
 use Rattle.crn_quick.specs.declared.Step.{Step}
 use Rattle.crn_quick.specs.declared.Steps.{Steps}
 use Rattle.crn_chunks.specs.declared.Carried.{Carried}
 use Rattle.crn_chunks.specs.declared.Stream.{Stream}
-use Rattle.crn_quick.specs.Quick.{streamAt, each, sideAt, beginning, Both, Stepped, Tiles, QuickTiled, AllTiles, QuickAllTiled, QuickPicks, QuickAllPicked}
+use Rattle.crn_quick.specs.Quick.{streamAt, each, Both, Stepped, Tiles, QuickTiled, QuickAllTiled, QuickPicks, QuickAllPicked}
 
 pub never : {b : Bool} {A : Type 0} → b ≡ true → b ≡ false → A
 never e f = let z : _≡_ {A = ℕ} 0 1 = cc in absurd (omega arith)
@@ -54,111 +53,43 @@ module _ {lookup sorted seg : List ℕ} {ps : Planes} {p : Side} {base n i : ℕ
     pub quick-now : Tiling lookup sorted seg ps p base n i (streamAt c 0 k) before out (streamAt at (x 0 k 0 (omega arith) .blamed) 0) last k
     quick-now = x 0 k 0 (omega arith) .tiling
 
-    -- another cursor at the same place
-    moved : {d : Cursor} → Holds seg d → place d ≡ place at → QuickTiling lookup sorted seg ps p base n i c before out d last k
-    moved {d} h e b l m f =
-        let y = x b l m f in
-        let t = y .tiling in
-        record {
-          blamed = y .blamed;
-          tiling = record {
-            some = t .some;
-            holds = h;
-            below = t .below;
-            final = t .final;
-            long = t .long;
-            kept = t .kept;
-            left = λ cs q. t .left cs q
-                ∙ ap (λ (z : ℕ). run (source seg) (endpointIndices (planeOf cs p) (n - k) last (tilesAt base k out)) (record { place = spot z (y .blamed); left = m })) (sym e);
-          };
-        }
-
-    pub quick-more : {d : Cursor} {a : Step} → Holds seg d → place d ≡ place at → k < n → Stepped lookup sorted seg ps (p .ends) (p .endpoints) true last d a → a .lost ≡ false
+    pub quick-more : {a : Step} → k < n → Stepped lookup sorted seg ps (p .ends) (p .endpoints) true last at a → a .lost ≡ false
         → base + n ≤ length before → QuickTiling lookup sorted seg ps p base n i c before (set out (base + k) (a .number)) (a .cursor) (a .number) (k + 1)
-    quick-more {d} h e more s kept room b l m f =
-        let y = moved h e b l (m + 1) (omega arith) in
-        record { blamed = place d; tiling = tiling-more (y .tiling) more (s .drawn kept (y .blamed) (m + 1) m refl) refl room }
+    quick-more more s kept room b l m f =
+        let y = x b l (m + 1) (omega arith) in
+        record { blamed = place at; tiling = tiling-more (y .tiling) more (s .drawn kept (y .blamed) (m + 1) m refl) refl room }
 
     pub quick-done : n ≤ k → k ≤ n → (b l m : ℕ) → l ≡ m + n → {a : Step} → a .number ≡ last → a .cursor ≡ at → Tiles lookup sorted seg ps p base n i (streamAt c b l) m before out a
     quick-done u w b l m f {a} g h =
         let y = x b l m (omega arith) in
         record { blamed = y .blamed; tiled = rw (g, h) (tiling-done (y .tiling) u) }
 
--- ---- p planes done, from a cursor
+-- ---- the tiles of each plane
 
-pub each-few : (two : Bool) → each two 1 ≤ 2
-each-few true = omega arith
-each-few false = omega arith
+-- from another cursor at the same place
+tiles-moved : {lookup sorted seg : List ℕ} {ps : Planes} {p : Side} {base n i : ℕ} {c d : Cursor} {b l : ℕ} {before after : List ℕ} {a : Drew} → place d ≡ place c
+    → Tiled lookup sorted seg ps p base n i (streamAt d b l) before after a → Tiled lookup sorted seg ps p base n i (streamAt c b l) before after a
+tiles-moved {seg = seg} {p = p} {n = n} {i = i} {b = b} {l = l} e t =
+    record {
+      same = λ cs k. t .same cs k ∙ ap (λ (z : ℕ). run (source seg) (endpointIndices (planeOf cs p) n i []) (record { place = spot z b; left = l })) e;
+      on = t .on;
+      kept = t .kept;
+    }
 
-more-two : (two : Bool) → 1 < each two 1 → two ≡ true
-more-two true h = refl
-more-two false h = absurd (omega arith)
+-- c0 is the cursor c, filled, and d0 the one after the first plane's
+module _ {lookup sorted seg : List ℕ} (ps : Planes) {n e0 e1 : ℕ} {c c0 : Cursor} {before mid : List ℕ} {t : Step} (at : place c0 ≡ place c)
+    (x : QuickTiled lookup sorted seg ps (ps .first) 0 n e0 c0 before mid t) (kept : t .lost ≡ false) where
+  pub tiled-one : ps .two ≡ false → e1 < most → QuickAllTiled lookup sorted seg ps n e0 e1 c mid (record { cursor = t .cursor; i0 = t .number; i1 = e1; length = 0; lost = false })
+  tiled-one h o z b l m f =
+      let y = x kept b l m (f ∙ ap (λ (v : ℕ). m + v) (each-one n h)) in
+      record { blamed = y .blamed; tiled = tiles-one ps e1 (tiles-moved at (y .tiled)) refl h o }
 
-pub record Planed (lookup sorted seg : List ℕ) (ps : Planes) (n e0 e1 : ℕ) (c : Cursor) (before out : List ℕ) (at : Cursor) (i0 i1 p : ℕ) : Type 0 where
-  pub some : p ≤ each (ps .two) 1
-  pub holds : Holds seg at
-  pub long : length out ≡ length before
-  pub none : p ≡ 0 → at ≡ c
-  pub from : List ℕ
-  pub one : p ≡ 1 → QuickTiled lookup sorted seg ps (ps .first) 0 n e0 c from out (record { cursor = at; number = i1; length = 0; lost = false })
-  pub both : p ≡ 2 → (b l m : ℕ) → l ≡ m + (n + n) → AllTiles lookup sorted seg ps n e0 e1 (streamAt c b l) m out (record { cursor = at; i0 = i0; i1 = i1; length = 0; lost = false })
-
--- the steps' other numbers do not matter
-same-tiles : {lookup sorted seg : List ℕ} {ps : Planes} {p : Side} {base n i : ℕ} {c : Cursor} {before after : List ℕ} {u : Step} → u .lost ≡ false
-    → QuickTiled lookup sorted seg ps p base n i c before after u → QuickTiled lookup sorted seg ps p base n i c before after (record { cursor = u .cursor; number = u .number; length = 0; lost = false })
-same-tiles kept y z b l m f = let w = y kept b l m f in record { blamed = w .blamed; tiled = w .tiled }
-
-module _ {lookup sorted seg : List ℕ} (ps : Planes) {n e0 : ℕ} (e1 : ℕ) {c : Cursor} where
-  pub planed-none : (before : List ℕ) (i0 i1 : ℕ) → Holds seg c → Planed lookup sorted seg ps n e0 e1 c before before c i0 i1 0
-  planed-none before i0 i1 h =
-      record {
-        some = omega arith;
-        holds = h;
-        long = refl;
-        none = λ e. refl;
-        from = before;
-        one = λ e. absurd (omega arith);
-        both = λ e. absurd (omega arith);
-      }
-
-  pub planed-more : (p : ℕ) {before out after : List ℕ} {at : Cursor} {i0 i1 : ℕ} {u : Step} → Planed lookup sorted seg ps n e0 e1 c before out at i0 i1 p → p < each (ps .two) 1
-      → QuickTiled lookup sorted seg ps (sideAt ps p) (4 * p) n (beginning e0 e1 p) at out after u → u .lost ≡ false → n ≤ 4 → length after ≡ length out
-      → Planed lookup sorted seg ps n e0 e1 c before after (u .cursor) i1 (u .number) (p + 1)
-  planed-more zero {out = out} {u = u} x more y kept few long =
-      let g : QuickTiled lookup sorted seg ps (ps .first) 0 n e0 c out _ _ = rw (x .none refl) at (same-tiles kept y) in
-      record {
-        some = omega arith;
-        holds = y kept 0 n 0 (omega arith) .tiled .on .0;
-        long = long ∙ x .long;
-        none = λ e. absurd (omega arith);
-        from = out;
-        one = λ e. g;
-        both = λ e. absurd (omega arith);
-      }
-  planed-more (suc zero) {out = out} {u = u} x more y kept few long =
-      let h = more-two (ps .two) more in
-      record {
-        some = omega arith;
-        holds = y kept 0 n 0 (omega arith) .tiled .on .0;
-        long = long ∙ x .long;
-        none = λ e. absurd (omega arith);
-        from = out;
-        one = λ e. absurd (omega arith);
-        both = λ e b l m f.
-            let v = x .one refl refl b l (m + n) (omega arith) in
-            let w = y kept (v .blamed) (m + n) m refl in
-            record { blamed = w .blamed; tiled = tiles-two ps e1 (v .tiled) refl h (w .tiled) refl few long };
-      }
-  planed-more (suc (suc p)) x more y kept few long = absurd (omega (arith, each-few (ps .two)))
-
-  module _ {before out : List ℕ} {at : Cursor} {i0 i1 p : ℕ} (x : Planed lookup sorted seg ps n e0 e1 c before out at i0 i1 p) (done : each (ps .two) 1 ≤ p) where
-    pub planed-one : ps .two ≡ false → e1 < most → QuickAllTiled lookup sorted seg ps n e0 e1 c out (record { cursor = at; i0 = i1; i1 = e1; length = 0; lost = false })
-    planed-one h o z b l m f =
-        let y = x .one (omega (arith, x .some, each-one 1 h)) refl b l m (f ∙ ap (λ (z : ℕ). m + z) (each-one n h)) in
-        record { blamed = y .blamed; tiled = tiles-one ps e1 (y .tiled) refl h o }
-
-    pub planed-two : ps .two ≡ true → QuickAllTiled lookup sorted seg ps n e0 e1 c out (record { cursor = at; i0 = i0; i1 = i1; length = 0; lost = false })
-    planed-two h z b l m f = x .both (omega (arith, x .some, each-two 1 h)) b l m (f ∙ ap (λ (z : ℕ). m + z) (each-two n h))
+  pub tiled-two : {d0 : Cursor} {after : List ℕ} {u : Step} → ps .two ≡ true → place d0 ≡ place (t .cursor) → QuickTiled lookup sorted seg ps (ps .second) 4 n e1 d0 mid after u
+      → n ≤ 4 → length after ≡ length mid → QuickAllTiled lookup sorted seg ps n e0 e1 c after (record { cursor = u .cursor; i0 = t .number; i1 = u .number; length = 0; lost = u .lost })
+  tiled-two h at0 y few long z b l m f =
+      let v = x kept b l (m + n) (f ∙ ap (λ (w : ℕ). m + w) (each-two n h) ∙ omega arith) in
+      let w = y z (v .blamed) (m + n) m refl in
+      record { blamed = w .blamed; tiled = tiles-two ps e1 (tiles-moved at (v .tiled)) refl h (tiles-moved at0 (w .tiled)) refl few long }
 
 -- ---- a position
 
@@ -287,32 +218,3 @@ both-read ps {n} right bottom r s {mid} {out} {t} {u} x f y g long few room {b} 
     let a = x f (s .blamed) (s .left) (l + each (ps .two) 4) (spent (ps .two) n (s .left) l few room q) in
     let d = y .picked g (a .blamed) (l + each (ps .two) 4) l refl in
     record { mid = mid; between = streamAt (t .cursor) (a .blamed) (l + each (ps .two) 4); long = long; tiled = a .tiled; picked = rw p d }
-
--- ---- the planes by their numbers
-
-pub side-first : (ps : Planes) {p : ℕ} → p ≡ 0 → ps .first ≡ sideAt ps p
-side-first ps e = rw e
-
-pub side-later : (ps : Planes) (p : ℕ) → (p ≡ 0 → ⊥) → ps .second ≡ sideAt ps p
-side-later ps zero h = absurd (h refl)
-side-later ps (suc p) h = refl
-
-pub begin-first : (e0 e1 : ℕ) {p : ℕ} → p ≡ 0 → e0 ≡ beginning e0 e1 p
-begin-first e0 e1 e = rw e
-
-pub begin-later : (e0 e1 p : ℕ) → (p ≡ 0 → ⊥) → e1 ≡ beginning e0 e1 p
-begin-later e0 e1 zero h = absurd (h refl)
-begin-later e0 e1 (suc p) h = refl
-
-module _ {ps : Planes} {lookup sorted : List ℕ} (s : Served ps lookup sorted) where
-  pub named-at : (p : ℕ) → Named ps (sideAt ps p)
-  named-at zero = s .first
-  named-at (suc p) = s .second
-
-  pub small-at : (p : ℕ) → Small (sideAt ps p)
-  small-at zero = s .small .0
-  small-at (suc p) = s .small .1
-
-pub begin-small : {e0 e1 : ℕ} → e0 < most → e1 < most → (p : ℕ) → beginning e0 e1 p < most
-begin-small h g zero = h
-begin-small h g (suc p) = g

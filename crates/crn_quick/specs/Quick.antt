@@ -1,6 +1,6 @@
 -- What the quick way to read a chunk found. Where it was not lost, its numbers are what the slow way answers, from a stream at the cursor with any bit
 -- blamed and a budget of l, of which m are left: nothing looks at either on the way. Whether a position lies inside does not matter to it either.
-use Prim.Native.Nat.{ℕ, zero, suc, _+_, _-_, _≤_}
+use Prim.Native.Nat.{ℕ, _+_, _-_, _≤_}
 use mathlib.Core.Path.{_≡_}
 use mathlib.Core.Bool.{Bool, false}
 use mathlib.Core.List.{List}
@@ -37,15 +37,6 @@ each two n = pick two (n + n) n
 pub record Able (lookup sorted seg : List ℕ) (ps : Planes) (c : Cursor) : Type 0 where
   pub served : Served ps lookup sorted
   pub holds : Holds seg c
-
--- the plane of number p, and where its endpoint indices begin
-abbrev pub sideAt : Planes → ℕ → Side
-sideAt ps zero = ps .first
-sideAt ps (suc k) = ps .second
-
-abbrev pub beginning : ℕ → ℕ → ℕ → ℕ
-beginning e0 e1 zero = e0
-beginning e0 e1 (suc k) = e1
 
 -- a symbol
 pub record Found (lookup sorted seg : List ℕ) (ps : Planes) (which : ℕ) (c : Cursor) (a : Step) : Type 0 where

@@ -1,6 +1,6 @@
 // A chunk by a quick way (document 01, Chunks). Its cursor stands in registers, and the budget is looked at once: where the quick way is lost
 // nothing is known, and the chunk is read anew by the way that finds the refusal, `crn_chunks::read_chunk`. It is lost at every refusal, near the
-// segment's end, and at an index out of range, even where no block uses it.
+// segment's end, where a plane's codes are too long for the bits at hand, and at an index out of range, even where no block uses it.
 ghost use mathlib.Core.Path.{_≡_};
 ghost use mathlib.Core.Bool.{Bool, true, false};
 ghost use Prim.Native.Nat.{_+_, _<_, _≤_};
@@ -9,7 +9,7 @@ ghost use Rattle.crn_format.specs.Limits.{tooLong, maxEntries};
 ghost use Rattle.crn_chunks.specs.Meaning.{Onward, Served, Named, Small, most};
 ghost use Rattle.crn_chunks.specs.Parts.{Ready};
 ghost use Rattle.crn_chunks.specs.Reads.{Reads, insideOf};
-ghost use Rattle.crn_quick.specs.Quick.{Able, sideAt, beginning, each as «eachOf», Found, Stepped, QuickTiled, QuickAllTiled, QuickPicks, QuickAllPicked, QuickEncodes, QuickRead, QuickReads};
+ghost use Rattle.crn_quick.specs.Quick.{Able, each as «eachOf», Found, Stepped, QuickTiled, QuickAllTiled, QuickPicks, QuickAllPicked, QuickEncodes, QuickRead, QuickReads};
 use crn_chunks::Carried;
 use crn_chunks::Chunked;
 use crn_chunks::Planes;
@@ -182,7 +182,8 @@ fn quick_index(
     }
 }
 
-// The endpoint indices of a plane's n tiles, as `plane_tiles` reads them.
+// The endpoint indices of a plane's n tiles, as `plane_tiles` reads them. The bits at hand have to do: a refill has them for three, and mostly for four.
+// (With a refill in it this would be too long for the compiler to take in twice.)
 fn quick_plane(
     lookup: &[u32],
     sorted: &[u16],
@@ -202,8 +203,7 @@ fn quick_plane(
     let mut last = i;
     let mut k: usize = 0;
     while k < n {
-        let d = filled(seg, at);
-        let t = quick_index(lookup, sorted, seg, ps, p.ends, p.endpoints, last, d);
+        let t = quick_index(lookup, sorted, seg, ps, p.ends, p.endpoints, last, at);
         let lost = t.lost;
         if lost {
             return t;
@@ -223,29 +223,7 @@ fn quick_plane(
     }
 }
 
-// The plane of number p.
-fn plane(ps: Planes, p: usize) -> Side
-    ensures { λ r. ⌜ r ≡ sideAt ps p ⌝ }
-{
-    if p == 0 {
-        let first = ps.first;
-        return first;
-    }
-    let second = ps.second;
-    second
-}
-
-// Where its endpoint indices begin.
-fn begun(e0: u64, e1: u64, p: usize) -> u64
-    ensures { λ r. ⌜ r ≡ beginning e0 e1 p ⌝ }
-{
-    if p == 0 {
-        return e0;
-    }
-    e1
-}
-
-// The same for each plane, one after the other.
+// The same for each plane.
 fn quick_tiles(
     lookup: &[u32],
     sorted: &[u16],
@@ -260,38 +238,31 @@ fn quick_tiles(
     requires { ⌜ Able (now lookup) (now sorted) (now seg) ps c ⌝ ∗ ⌜ (e0 < most) × (e1 < most) ⌝ ∗ ⌜ n ≤ 4 ⌝ ∗ ⌜ length (now out) ≡ 16 ⌝ }
     ensures { λ a. ⌜ QuickAllTiled (now (lookup .entry)) (now (sorted .entry)) (now (seg .entry)) ps n e0 e1 c (now (out .exit)) a ⌝ }
 {
-    let two = ps.two;
-    let planes = each(two, 1) as usize;
-    let mut at = c;
-    let mut i0: u64 = 0;
-    let mut i1: u64 = 0;
-    let mut p: usize = 0;
-    while p < planes {
-        let q = plane(ps, p);
-        let i = begun(e0, e1, p);
-        let t = quick_plane(lookup, sorted, seg, ps, q, 4 * p, n, i, at, out);
-        let d = t.cursor;
-        let lost = t.lost;
-        if lost {
-            return no_steps(d);
-        }
-        i0 = i1;
-        i1 = t.number;
-        at = d;
-        p += 1;
+    let c0 = refill(seg, c);
+    let p = ps.first;
+    let t = quick_plane(lookup, sorted, seg, ps, p, 0, n, e0, c0, out);
+    let d = t.cursor;
+    let lost = t.lost;
+    if lost {
+        return no_steps(d);
     }
+    let two = ps.two;
     if two {
+        let d0 = refill(seg, d);
+        let q = ps.second;
+        let u = quick_plane(lookup, sorted, seg, ps, q, 4, n, e1, d0, out);
+        let e = u.cursor;
         return Steps {
-            cursor: at,
-            i0,
-            i1,
+            cursor: e,
+            i0: t.number,
+            i1: u.number,
             length: 0,
-            lost: false,
+            lost: u.lost,
         };
     }
     Steps {
-        cursor: at,
-        i0: i1,
+        cursor: d,
+        i0: t.number,
         i1: e1,
         length: 0,
         lost: false,
@@ -376,7 +347,7 @@ fn pair_positions(
     }
 }
 
-// Those of one plane. A refill has bits for two positions; without a loop the compiler keeps all four indices in registers.
+// Those of one plane. A refill has bits for three positions, and mostly for four; without a loop the compiler keeps all four indices in registers.
 fn single_positions(
     lookup: &[u32],
     sorted: &[u16],
@@ -393,24 +364,42 @@ fn single_positions(
     let p = ps.first;
     let c0 = refill(seg, c);
     let t0 = quick_index(lookup, sorted, seg, ps, p.sels, p.selectors, s0, c0);
-    let c1 = t0.cursor;
+    let after0 = t0.cursor;
     let lost0 = t0.lost;
     if lost0 {
-        return no_steps(c1);
+        return no_steps(after0);
     }
-    let t1 = quick_index(lookup, sorted, seg, ps, p.sels, p.selectors, t0.number, c1);
+    let t1 = quick_index(
+        lookup,
+        sorted,
+        seg,
+        ps,
+        p.sels,
+        p.selectors,
+        t0.number,
+        after0,
+    );
     let after1 = t1.cursor;
     let lost1 = t1.lost;
     if lost1 {
         return no_steps(after1);
     }
-    let c2 = refill(seg, after1);
-    let t2 = quick_index(lookup, sorted, seg, ps, p.sels, p.selectors, t1.number, c2);
-    let c3 = t2.cursor;
+    let t2 = quick_index(
+        lookup,
+        sorted,
+        seg,
+        ps,
+        p.sels,
+        p.selectors,
+        t1.number,
+        after1,
+    );
+    let after2 = t2.cursor;
     let lost2 = t2.lost;
     if lost2 {
-        return no_steps(c3);
+        return no_steps(after2);
     }
+    let c3 = filled(seg, after2);
     let t3 = quick_index(lookup, sorted, seg, ps, p.sels, p.selectors, t2.number, c3);
     let after3 = t3.cursor;
     let lost3 = t3.lost;

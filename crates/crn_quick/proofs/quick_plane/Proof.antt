@@ -3,7 +3,6 @@ use Prim.Native.Nat.{_-_}
 use mathlib.Core.Bool.{true}
 use mathlib.Core.Path.{refl}
 use native.Mathlib.Omega.{arith}
-use borrow.Author.Needs.{needs}
 use Rattle.crn_quick.proofs.Joining.{never, QuickTiling, quick-none, quick-now, quick-more, quick-done}
 use Rattle.crn_quick.proofs.quick_plane.Statement.{statement}
 use Rattle.crn_quick.proofs.quick_plane.Tie as tie
@@ -17,26 +16,23 @@ abbrev μ-loop : tie.MeasureT-loop
 loop-holds : tie.Need-loop-holds Inv-loop μ-loop
 loop-holds c = quick-none _ (c .before .before .before .before .pre .0 .holds) (c .before .before .before .before .pre .1 .1 .1 .0)
 
-filled-requires : tie.Need-filled-requires Inv-loop μ-loop
-filled-requires c κs = quick-now (c .before .loop .inv) .holds
-
 quick-index-requires : tie.Need-quick-index-requires Inv-loop μ-loop
-quick-index-requires c κs = (record { served = c .before .before .before .before .before .before .before .pre .0 .served; holds = c .filled .ensures .holds }, (c .before .before .before .before .before .before .before .pre .1 .0 .ends, (c .before .before .before .before .before .before .before .pre .1 .1 .0 .endpoints, quick-now (c .before .before .loop .inv) .below)))
+quick-index-requires c κs = (record { served = c .before .before .before .before .before .before .pre .0 .served; holds = quick-now (c .before .loop .inv) .holds }, (c .before .before .before .before .before .before .pre .1 .0 .ends, (c .before .before .before .before .before .before .pre .1 .1 .0 .endpoints, quick-now (c .before .loop .inv) .below)))
 
 same-length : tie.Need-same-length Inv-loop μ-loop
-same-length c = quick-now (c .before .before .before .before .loop .inv) .long
+same-length c = quick-now (c .before .before .before .loop .inv) .long
 
 returns : tie.Need-returns Inv-loop μ-loop
 returns c = λ z. never (c .if1 .taken) z
 
 add-out : tie.Need-add-out Inv-loop μ-loop
-add-out c = omega (arith, c .before .before .before .before .before .before .before .before .before .pre .1 .1 .1 .1, quick-now (c .before .before .before .before .loop .inv) .long, c .before .before .before .before .before .before .before .before .before .good .1 .1 .1 .1 .1 .1 .1 .1 .1 .0 .1, c .before .before .before .loop-test .taken)
+add-out c = omega (arith, c .before .before .before .before .before .before .before .before .pre .1 .1 .1 .1, quick-now (c .before .before .before .loop .inv) .long, c .before .before .before .before .before .before .before .before .good .1 .1 .1 .1 .1 .1 .1 .1 .1 .0 .1, c .before .before .loop-test .taken)
 
 mul-out : tie.Need-mul-out Inv-loop μ-loop
-mul-out c = omega (arith, c .before .before .before .before .before .before .before .before .before .pre .1 .1 .1 .1, quick-now (c .before .before .before .before .loop .inv) .long, c .before .before .before .before .before .before .before .before .before .good .1 .1 .1 .1 .1 .1 .1 .1 .1 .0 .1, c .before .before .before .loop-test .taken)
+mul-out c = omega (arith, c .before .before .before .before .before .before .before .before .pre .1 .1 .1 .1, quick-now (c .before .before .before .loop .inv) .long, c .before .before .before .before .before .before .before .before .good .1 .1 .1 .1 .1 .1 .1 .1 .1 .0 .1, c .before .before .loop-test .taken)
 
 slice-write-out : tie.Need-slice-write-out Inv-loop μ-loop
-slice-write-out c = omega (arith, c .before .before .before .before .before .before .before .before .before .pre .1 .1 .1 .1, quick-now (c .before .before .before .before .loop .inv) .long, c .before .before .before .before .before .before .before .before .before .good .1 .1 .1 .1 .1 .1 .1 .1 .1 .0 .1, c .before .before .before .loop-test .taken)
+slice-write-out c = omega (arith, c .before .before .before .before .before .before .before .before .pre .1 .1 .1 .1, quick-now (c .before .before .before .loop .inv) .long, c .before .before .before .before .before .before .before .before .good .1 .1 .1 .1 .1 .1 .1 .1 .1 .0 .1, c .before .before .loop-test .taken)
 
 add-k : tie.Need-add-k Inv-loop μ-loop
 add-k c = omega arith
@@ -45,7 +41,7 @@ loop-less : tie.Need-loop-less Inv-loop μ-loop
 loop-less c = omega arith
 
 loop-again : tie.Need-loop-again Inv-loop μ-loop
-loop-again c = quick-more (c .before .before .before .before .before .loop .inv) (c .before .before .before .filled .ensures .holds) (c .before .before .before .filled .ensures .stays) (c .before .before .before .before .loop-test .taken) (c .before .before .quick-index .ensures true) (c .before .if1 .left) (c .before .before .before .before .before .before .before .before .before .before .pre .1 .1 .1 .1)
+loop-again c = quick-more (c .before .before .before .before .loop .inv) (c .before .before .before .loop-test .taken) (c .before .before .quick-index .ensures true) (c .before .if1 .left) (c .before .before .before .before .before .before .before .before .before .pre .1 .1 .1 .1)
 
 same-length-2 : tie.Need-same-length-2 Inv-loop μ-loop
 same-length-2 c = quick-now (c .before .loop .inv) .long
@@ -60,7 +56,6 @@ quick-plane-spec =
     Inv-loop
     μ-loop
     loop-holds
-    filled-requires
     quick-index-requires
     same-length
     returns

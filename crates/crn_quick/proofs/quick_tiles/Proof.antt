@@ -1,101 +1,62 @@
--- The endpoint indices of the tiles by the quick way, plane by plane.
-use Prim.Native.Nat.{_-_}
-use mathlib.Core.Path.{_∙_}
+-- The endpoint indices of the tiles of each plane by the quick way.
 use native.Mathlib.Omega.{arith}
 use borrow.Author.Needs.{needs}
-use Rattle.crn_quick.proofs.Joining.{never, each-few, Planed, planed-none, planed-more, planed-one, planed-two, named-at, small-at, begin-small}
+use Rattle.crn_quick.proofs.Joining.{never, tiled-one, tiled-two}
 use Rattle.crn_quick.proofs.quick_tiles.Statement.{statement}
 use Rattle.crn_quick.proofs.quick_tiles.Tie as tie
 
-abbrev Inv-loop : tie.InvT-loop
-Inv-loop lookup sorted seg ps n e0 e1 out₀ two planes at₀ i0₀ i1₀ p₀ out at i0 i1 p = Planed lookup sorted seg ps n e0 e1 at₀ out₀ out at i0 i1 p
+refill-requires : tie.Need-refill-requires
+refill-requires c κs = search needs
 
-abbrev μ-loop : tie.MeasureT-loop
-μ-loop lookup sorted seg ps n e0 e1 out₀ two planes at₀ i0₀ i1₀ p₀ out at i0 i1 p = planes - p
-
-each-requires : tie.Need-each-requires Inv-loop μ-loop
-each-requires c κs = omega arith
-
-loop-holds : tie.Need-loop-holds Inv-loop μ-loop
-loop-holds c = planed-none (c .before .before .before .before .before .args .ps) (c .before .before .before .before .before .args .e1) _ _ _ (c .before .before .before .before .before .pre .0 .holds)
-
-plane-requires : tie.Need-plane-requires Inv-loop μ-loop
-plane-requires c κs = tt
-
-begun-requires : tie.Need-begun-requires Inv-loop μ-loop
-begun-requires c κs = tt
-
-mul-quick-plane : tie.Need-mul-quick-plane Inv-loop μ-loop
-mul-quick-plane c = omega (arith, c .before .before .loop-test .taken, c .before .before .before .before .each .ensures .1)
-
-quick-plane-requires : tie.Need-quick-plane-requires Inv-loop μ-loop
+quick-plane-requires : tie.Need-quick-plane-requires
 quick-plane-requires c κs =
-    let st = c .before .before .before .before .before .before .before .before .before .before in
-    let p = c .before .before .before .before .loop .p in (
-      record { served = st .pre .0 .served; holds = c .before .before .before .before .loop .inv .holds },
-      (
-        rw (c .before .before .plane .ensures) (named-at (st .pre .0 .served) p),
-        (
-          rw (c .before .before .plane .ensures) (small-at (st .pre .0 .served) p),
-          (
-            rw (c .before .begun .ensures) (begin-small (st .pre .1 .0 .0) (st .pre .1 .0 .1) p),
-            omega (arith, c .before .before .before .loop-test .taken, c .before .before .before .before .before .each .ensures .0, each-few (st .args .ps .two), st .pre .1 .1 .0, st .pre .1 .1 .1, c .before .before .before .before .loop .inv .long),
-          ),
-        ),
-      ),
-    )
+    let st = c .before .before .before .before .before .before .before in
+    (record { served = st .pre .0 .served; holds = c .before .before .refill .ensures .holds }, (st .pre .0 .served .first, (st .pre .0 .served .small .0, (st .pre .1 .0 .0, omega (arith, st .pre .1 .1 .0, st .pre .1 .1 .1)))))
 
-no-steps-requires : tie.Need-no-steps-requires Inv-loop μ-loop
-no-steps-requires c κs = tt
+no-steps-requires : tie.Need-no-steps-requires
+no-steps-requires c κs = search needs
 
-same-length : tie.Need-same-length Inv-loop μ-loop
-same-length c = c .before .before .before .before .before .quick-plane .kept .1 .1 .1 .1 .1 .1 .1 .1 .1 .0 ∙ c .before .before .before .before .before .before .before .before .before .before .loop .inv .long
+same-length : tie.Need-same-length
+same-length c = search needs
 
-returns : tie.Need-returns Inv-loop μ-loop
+returns : tie.Need-returns
 returns c = λ z. never (c .no-steps .ensures) z
 
-add-p : tie.Need-add-p Inv-loop μ-loop
-add-p c = omega (arith, c .before .before .before .before .before .before .before .before .loop-test .taken, c .before .before .before .before .before .before .before .before .before .before .each .ensures .1)
+refill-requires-2 : tie.Need-refill-requires-2
+refill-requires-2 c κs = c .before .before .before .before .before .quick-plane .ensures (c .before .if1 .left) 0 (c .before .before .before .before .before .before .before .before .before .before .before .before .before .args .n) 0 (omega arith) .tiled .on .0
 
-loop-less : tie.Need-loop-less Inv-loop μ-loop
-loop-less c = omega (arith, c .before .before .before .before .before .before .before .before .loop-test .taken)
+quick-plane-requires-2 : tie.Need-quick-plane-requires-2
+quick-plane-requires-2 c κs =
+    let st = c .before .before .before .before .before .before .before .before .before .before .before .before .before .before .before .before in
+    (record { served = st .pre .0 .served; holds = c .before .before .refill2 .ensures .holds }, (st .pre .0 .served .second, (st .pre .0 .served .small .1, (st .pre .1 .0 .1, omega (arith, st .pre .1 .1 .0, st .pre .1 .1 .1, c .before .before .before .before .before .before .before .before .quick-plane .kept .1 .1 .1 .1 .1 .1 .1 .1 .1 .0)))))
 
-loop-again : tie.Need-loop-again Inv-loop μ-loop
-loop-again c =
-    let st = c .before .before .before .before .before .before .before .before .before .before .before .before .before .before .before in
-    planed-more (st .args .ps) (st .args .e1) (c .before .before .before .before .before .before .before .before .before .loop .p) (c .before .before .before .before .before .before .before .before .before .loop .inv) (omega (arith, c .before .before .before .before .before .before .before .before .loop-test .taken, c .before .before .before .before .before .before .before .before .before .before .each .ensures .0))
-    (rw (c .before .before .before .before .before .before .before .plane .ensures, c .before .before .before .before .before .before .begun .ensures) at (c .before .before .before .before .quick-plane .ensures)) (c .if1 .left) (st .pre .1 .1 .0) (c .before .before .before .before .quick-plane .kept .1 .1 .1 .1 .1 .1 .1 .1 .1 .0)
+same-length-2 : tie.Need-same-length-2
+same-length-2 c = search needs
 
-same-length-2 : tie.Need-same-length-2 Inv-loop μ-loop
-same-length-2 c = c .before .before .loop .inv .long
+returns-2 : tie.Need-returns-2
+returns-2 c =
+    let st = c .before .before .before .before .before .before .before .before .before .before .before .before .before .before .before .before .before .before .before .before in
+    tiled-two (st .args .ps) (c .before .before .before .before .before .before .before .before .before .before .before .before .before .before .before .refill .ensures .stays) (c .before .before .before .before .before .before .before .before .before .before .before .before .quick-plane .ensures) (c .before .before .before .before .before .before .before .before .if1 .left) (c .before .before .before .before .before .before .before .if2 .taken) (c .before .before .before .before .before .before .refill2 .ensures .stays) (c .before .before .before .quick-plane2 .ensures) (st .pre .1 .1 .0) (c .before .before .before .quick-plane2 .kept .1 .1 .1 .1 .1 .1 .1 .1 .1 .0)
 
-returns-2 : tie.Need-returns-2 Inv-loop μ-loop
-returns-2 c = planed-two (c .before .before .before .before .before .before .before .before .args .ps) (c .before .before .before .before .before .before .before .before .args .e1) (c .before .before .loop .inv) (omega (arith, c .before .loop-test .left, c .before .before .before .each .ensures .0)) (c .if2 .taken)
+same-length-3 : tie.Need-same-length-3
+same-length-3 c = search needs
 
-same-length-3 : tie.Need-same-length-3 Inv-loop μ-loop
-same-length-3 c = c .before .before .loop .inv .long
-
-returns-3 : tie.Need-returns-3 Inv-loop μ-loop
-returns-3 c = planed-one (c .before .before .before .before .before .before .before .before .args .ps) (c .before .before .before .before .before .before .before .before .args .e1) (c .before .before .loop .inv) (omega (arith, c .before .loop-test .left, c .before .before .before .each .ensures .0)) (c .if2 .left) (c .before .before .before .before .before .before .before .before .pre .1 .0 .1)
+returns-3 : tie.Need-returns-3
+returns-3 c =
+    let st = c .before .before .before .before .before .before .before .before .before .before .before .before .before in
+    tiled-one (st .args .ps) (c .before .before .before .before .before .before .before .before .refill .ensures .stays) (c .before .before .before .before .before .quick-plane .ensures) (c .before .if1 .left) (c .if2 .left) (st .pre .1 .0 .1)
 
 pub quick-tiles-spec : {M : Type 1} → statement M
 quick-tiles-spec =
     tie.close
     (tie.spec
-    Inv-loop
-    μ-loop
-    each-requires
-    loop-holds
-    plane-requires
-    begun-requires
-    mul-quick-plane
+    refill-requires
     quick-plane-requires
     no-steps-requires
     same-length
     returns
-    add-p
-    loop-less
-    loop-again
+    refill-requires-2
+    quick-plane-requires-2
     same-length-2
     returns-2
     same-length-3
