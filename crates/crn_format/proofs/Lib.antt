@@ -6,5 +6,6 @@ pub mod Kraft
 pub mod Scripts
 pub mod Budget
 pub mod Passing
+pub mod Planes
 pub mod Writing
 pub mod Examples

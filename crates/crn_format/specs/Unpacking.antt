@@ -1,6 +1,6 @@
 -- Unpacking a level (document 01, Refusal numbers): what is checked before the first draw, what is drawn, and what the destination then
 -- holds.
-use Prim.Native.Nat.{ℕ, _+_, _*_, _-_, _%_}
+use Prim.Native.Nat.{ℕ, _+_, _*_, _-_, _/_, _%_}
 use mathlib.Core.Bool.{Bool, true}
 use mathlib.Core.List.{List, [], _∷_}
 use lib.ListN.{length, getD, take}
@@ -120,6 +120,14 @@ planesOf r = perPlane (kindOf (r .header .format)) (colorPlane r) (alphaPlane r)
 
 abbrev pub shadesOf : Kind → Palettes → List Shade
 shadesOf k p = perPlane k (color (p .colorEnds) (p .colorSels)) (alpha (p .alphaEnds) (p .alphaSels))
+
+-- how many planes a format has
+abbrev pub planeCount : Kind → ℕ
+planeCount k = length (perPlane {A = Unit {0}} k tt tt)
+
+-- the most symbols that a level may take: "eight symbols for each chunk and plane plus one for each started group of three chunks"
+abbrev pub allowance : ℕ → ℕ → ℕ
+allowance chunks planes = 8 * (chunks * planes) + (chunks + 2) / 3
 
 -- ---- the level
 

@@ -9,8 +9,9 @@ use Rattle.crn_format.specs.Reading.{Step, got, refused, Place, start, fromBits
 use Rattle.crn_format.specs.Header.{Kind, DXT1, DXT5, DXT5A, DXN, unknown}
 use Rattle.crn_format.specs.Level.{Chunk}
 use Rattle.crn_format.specs.Grid.{blockAt, painted}
-use Rattle.crn_format.specs.Unpacking.{perPlane, planesOf, unpacked, declined, cutoutCount}
+use Rattle.crn_format.specs.Unpacking.{planesOf, unpacked, declined, cutoutCount}
 use Rattle.crn_format.specs.declared.Grid.{Grid}
+use Rattle.crn_format.proofs.Planes.{planes-long}
 use Rattle.crn_blocks.specs.Sheet.{In}
 use Rattle.crn_blocks.proofs.Whole.{painted-same, cutouts-same}
 use Rattle.crn_laws.specs.Scripts.{Draws}
@@ -19,14 +20,6 @@ use Rattle.crn_laws.specs.Blocks.{blocksBy}
 use Rattle.crn_laws.proofs.Trying.{as-many}
 use Rattle.crn_laws.proofs.Placing.{block-is}
 use Rattle.crn_laws.proofs.Ending.{reading, ran, triedIn, answered, never, with-enough, with-less, script-of, chunksIn, took, not-15}
-
-each-plane : {A B : Type 0} (k : Kind) (c a : A) (d b : B) → length (perPlane k c a) ≡ length (perPlane k d b)
-unfolding perPlane
-each-plane DXT1 c a d b = refl
-each-plane DXT5 c a d b = refl
-each-plane DXT5A c a d b = refl
-each-plane DXN c a d b = refl
-each-plane unknown c a d b = refl
 
 cutouts-by : (k : Kind) {g : Grid} (block other : ℕ → ℕ → ℕ → List ℕ) → ((f x y : ℕ) → In g f x y → block f x y ≡ other f x y)
     → cutoutCount k g block ≡ cutoutCount k g other
@@ -65,7 +58,7 @@ module _ (v : Given) (c : Passes v) where
         ∙ ap₂ (unpacked (length (symbolsOf v ds))) (cutouts-by (kindIn v) read (blocksBy v ds) same) (painted-same read (blocksBy v ds) same (v .destination))
       where
         same : (f x y : ℕ) → In (gridIn v) f x y → read f x y ≡ blocksBy v ds f x y
-        same = block-is (gridIn v) (shadesIn v) (planesOf (v .opened)) (each-plane (kindIn v) _ _ _ _) ds (s .fits)
+        same = block-is (gridIn v) (shadesIn v) (planesOf (v .opened)) (planes-long (kindIn v) _ _ _ _) ds (s .fits)
 
   -- a level that is accepted has a script
   pub accepted-script : (budget : ℕ) → Accepted (unpackingIn v budget) → (ds : List Draws) × ScriptOf v ds

@@ -14,10 +14,10 @@ use Rattle.crn_format.specs.Codes.{Drawn, symbolAt, failed, drawn, longest}
 use Rattle.crn_format.specs.Reading.{Want, aSymbol, aNumber, Reading, answer, refuse, want, mark, next, Step, got, refused, then, Source, run, Place, spot, served, ofDrawn, fromBits}
 use Rattle.crn_format.specs.Level.{Plane, stepped, endpointIndex, selectorIndex, endpointIndices, planeEndpoints, planeSelectors, positionSelectors, tileCounts, encoding, Running, Chunk, lasts, lastRow, chunk, chunks, fresh, level}
 use Rattle.crn_format.specs.Grid.{inside, insides}
+use Rattle.crn_format.specs.Unpacking.{allowance}
 use Rattle.crn_format.specs.declared.Grid.{Grid}
 use Rattle.crn_format.proofs.Drawing.{drawn-none}
 use Rattle.crn_laws.specs.Scripts.{AllBelow}
-use Rattle.crn_laws.specs.Levels.{allowance}
 use Rattle.crn_laws.proofs.Trying.{tried, triedThen}
 
 -- the reading wants n symbols at most and refuses by less than 15; P holds of its answer and of how many of the n are left

@@ -1,15 +1,20 @@
 -- The theorems of a level that passes its checks: it is accepted exactly when a script for it exists, the script is the only one, every
 -- block is given by its position and the script, and a budget refuses it by 15 exactly when it is less than the draws that it tries.
 use Prim.Native.Nat.{ℕ, _≤_, _<_}
-use mathlib.Core.Path.{_≡_, sym, subst, _∙_}
+use mathlib.Core.Path.{_≡_, sym, ap, subst, _∙_}
 use mathlib.Core.Logic.{_↔_}
 use mathlib.Core.List.{List}
 use native.Mathlib.Omega.{arith}
 use native.Mathlib.Decide.{decLe}
 use lib.ListN.{length}
+use borrow.Author.Tests.{lt-ltb}
 use Rattle.crn_format.specs.Level.{fresh}
 use Rattle.crn_format.specs.Grid.{chunkCount, insides, painted}
-use Rattle.crn_format.specs.Unpacking.{planesOf, unpacked, cutoutCount}
+use Rattle.crn_format.specs.Unpacking.{gridOf, planesOf, allowance, unpacked, cutoutCount}
+use Rattle.crn_format.proofs.Planes.{planes-long}
+use Rattle.crn_sizes.specs.Sizes.{levelSizes}
+use Rattle.crn_sizes.specs.declared.LevelSizes.{LevelSizes}
+use Rattle.crn_sizes.proofs.Enough.{sizes-so}
 use Rattle.crn_laws.specs.Scripts.{Draws}
 use Rattle.crn_laws.specs.Levels.{Given, gridIn, kindIn, unpackingIn, Passes, ScriptOf, symbolsOf, allowed, Accepted, RefusedBy, Tries}
 use Rattle.crn_laws.specs.Blocks.{blocksBy}
@@ -26,6 +31,17 @@ module _ (v : Given) (c : Passes v) where
   pub exact-acceptance : (budget : ℕ) → allowed v ≤ budget → Accepted (unpackingIn v budget) ↔ ((ds : List Draws) × ScriptOf v ds)
   exact-acceptance budget h =
       (accepted-script v c budget, (λ s. (_, _, _, by-script v c (s .0) (s .1) budget (omega (arith, script-allowed (s .0) (s .1))))))
+
+  -- the symbols that a host is told for a level are its allowance
+  pub told-allowed : levelSizes (v .opened .header) (v .number) .symbols ≡ allowed v
+  unfolding gridOf
+  told-allowed =
+      ap (λ (z : LevelSizes). z .symbols) (sizes-so (v .opened .header) (v .number) (c .limits) (lt-ltb _ _ (c .number)))
+      ∙ ap (allowance (chunkCount (gridIn v))) (planes-long {A = Unit {0}} (kindIn v) tt tt _ _)
+
+  -- so with these as its budget, too, it is accepted exactly when a script for it exists
+  pub accepted-by-told : Accepted (unpackingIn v (levelSizes (v .opened .header) (v .number) .symbols)) ↔ ((ds : List Draws) × ScriptOf v ds)
+  accepted-by-told = exact-acceptance (levelSizes (v .opened .header) (v .number) .symbols) (omega (arith, told-allowed))
 
   -- the script is the only one
   pub only-script : (cs ds : List Draws) → ScriptOf v cs → ScriptOf v ds → cs ≡ ds

@@ -1,5 +1,5 @@
 -- A level that has passed the checks before its first draw: its scripts, and how many symbols they may have.
-use Prim.Native.Nat.{ℕ, _+_, _*_, _/_, _≤_, _<_}
+use Prim.Native.Nat.{ℕ, _≤_, _<_}
 use mathlib.Core.Path.{_≡_}
 use mathlib.Core.Bool.{true}
 use mathlib.Core.List.{List}
@@ -7,7 +7,7 @@ use lib.ListN.{length}
 use Rattle.crn_format.specs.Header.{Kind, kindOf, withinLimits}
 use Rattle.crn_format.specs.Opening.{Palettes}
 use Rattle.crn_format.specs.Grid.{Shade, chunkCount, insides}
-use Rattle.crn_format.specs.Unpacking.{lengthsOf, tablesHold, levelStands, levelSegment, palettesReach, gridOf, gridFits, reach, planesOf, shadesOf, Unpacking, unpacked, declined, unpacking}
+use Rattle.crn_format.specs.Unpacking.{lengthsOf, tablesHold, levelStands, levelSegment, palettesReach, gridOf, gridFits, reach, planesOf, shadesOf, allowance, Unpacking, unpacked, declined, unpacking}
 use Rattle.crn_format.specs.declared.Record.{Record}
 use Rattle.crn_format.specs.declared.Grid.{Grid}
 use Rattle.crn_laws.specs.Scripts.{symbols, Draws, levelSent, Script}
@@ -56,10 +56,6 @@ ScriptOf v ds =
 -- its symbols, in the fixed order
 abbrev pub symbolsOf : Given → List Draws → List ℕ
 symbolsOf v ds = symbols (levelSent (lengthsOf (v .opened .tables .«chunk_encoding»)) (planesOf (v .opened)) ds)
-
--- "eight symbols for each chunk and plane plus one for each started group of three chunks"
-abbrev pub allowance : ℕ → ℕ → ℕ
-allowance chunks planes = 8 * (chunks * planes) + (chunks + 2) / 3
 
 abbrev pub allowed : Given → ℕ
 allowed v = allowance (chunkCount (gridIn v)) (length (planesOf (v .opened)))

@@ -18,6 +18,7 @@ use Rattle.crn_format.specs.declared.Record.{Record}
 use Rattle.crn_format.specs.declared.Grid.{Grid}
 use Rattle.crn_format.proofs.Budget.{leftOf, left-falls}
 use Rattle.crn_format.proofs.Passing.{passed-drawn, accepted-passed}
+use Rattle.crn_format.proofs.Planes.{planes-long, planes-bytes}
 use Rattle.crn_blocks.specs.Sheet.{In, Room}
 use Rattle.crn_level.specs.Refusals.{firstFailed, refusalBy}
 use Rattle.crn_level.proofs.Checks.{all-checked}
@@ -27,7 +28,7 @@ use Rattle.crn_laws_total.proofs.Numbers.{among-first, among-second, no
 use Rattle.crn_laws_total.proofs.Refusing.{Stops, budget-stops}
 use Rattle.crn_laws_total.proofs.LevelReadings.{level-refuses}
 use Rattle.crn_laws_total.proofs.Bytes.{painted-leaves, blank-leaves}
-use Rattle.crn_laws_total.proofs.Sizes.{planes-long, planes-bytes, through, block-sized}
+use Rattle.crn_laws_total.proofs.Sizes.{through, block-sized}
 
 -- the refusals of a level's stream
 abbrev ok : ℕ → Bool

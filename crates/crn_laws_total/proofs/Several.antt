@@ -18,12 +18,13 @@ use Rattle.crn_format.specs.declared.Grid.{Grid}
 use Rattle.crn_format.proofs.Passing.{LevelPassed, accepted-passed}
 use Rattle.crn_blocks.specs.Sheet.{In}
 use Rattle.crn_blocks.proofs.Places.{further}
-use Rattle.crn_sizes.specs.Sizes.{close, closeGrid, sizesOf, levelSizes}
+use Rattle.crn_sizes.specs.Sizes.{close, closeSizes, levelSizes}
 use Rattle.crn_sizes.specs.declared.LevelSizes.{LevelSizes}
+use Rattle.crn_sizes.proofs.Enough.{sizes-so}
 use Rattle.crn_levels.specs.Several.{Far, Ended, begun, onward, severalFrom, severalOf, Gives}
 use Rattle.crn_levels.specs.Several as several
 use Rattle.crn_levels.specs.declared.Several.{Several}
-use Rattle.crn_levels.proofs.Steps.{sizes-so, through}
+use Rattle.crn_levels.proofs.Steps.{through}
 use Rattle.crn_laws_total.specs.Refusals.{among, beforeDraws, inDraws, levelRefusals}
 use Rattle.crn_laws_total.specs.Ends.{Declined, Accepted, LevelEnds, gridAt, bytesOf, behind, Stands, SeveralEnds}
 use Rattle.crn_laws_total.proofs.Numbers.{among-either, not-zero}
@@ -37,7 +38,7 @@ close-low : (faces columns rows bytes f x y : ℕ) → In (close faces columns r
 close-low faces columns rows bytes f x y at =
     omega (arith, further bytes (at .column), further (columns * bytes) (at .row), further (rows * (columns * bytes)) (at .face))
 
-low : (h : Header) (n : ℕ) → levelSizes h n ≡ sizesOf (closeGrid h n) → (f x y : ℕ) → In (gridAt h n) f x y
+low : (h : Header) (n : ℕ) → levelSizes h n ≡ closeSizes h n → (f x y : ℕ) → In (gridAt h n) f x y
     → placeOf (gridAt h n) f x y + gridAt h n .bytes ≤ levelSizes h n .bytes
 unfolding gridOf
 low h n so = rw so (λ f x y at. close-low _ _ _ _ f x y at)
@@ -60,7 +61,7 @@ module _ (r : Record) (file : List ℕ) (p : Palettes) where
   declined-at : {m n k : ℕ} {b c a d : List ℕ} → m ≡ n → b ≡ c → a ≡ d → Declined (gridAt (r .header) m) k b a → Declined (gridAt (r .header) n) k c d
   declined-at e f g s = rw (sym e, sym f, sym g) s
 
-  module _ (n : ℕ) {budget left levels refusal : ℕ} {b d : List ℕ} (a : List ℕ) (so : levelSizes (r .header) n ≡ sizesOf (closeGrid (r .header) n))
+  module _ (n : ℕ) {budget left levels refusal : ℕ} {b d : List ℕ} (a : List ℕ) (so : levelSizes (r .header) n ≡ closeSizes (r .header) n)
       (l : Accepted r (levelSegment file (r .header) n) p (gridAt (r .header) n) budget b d) (is : l .left .left ≡ left)
       (kept : take (levelSizes (r .header) n .bytes) a ≡ take (levelSizes (r .header) n .bytes) d)
       (more : SeveralEnds r file p (n + 1) left (drop (levelSizes (r .header) n .bytes) d) (drop (levelSizes (r .header) n .bytes) a) levels refusal) where

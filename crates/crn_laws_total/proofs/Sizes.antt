@@ -5,11 +5,9 @@ use mathlib.Core.Path.{_≡_, refl, sym, ap, _∙_, subst}
 use native.Mathlib.Omega.{arith}
 use lib.ListN.{length, length-replicate}
 use Rattle.crn_format.specs.Reading.{answer, Step, got, refused, then, Source, run}
-use Rattle.crn_format.specs.Header.{Kind, DXT1, DXT5, DXT5A, DXN, unknown, blockBytes}
 use Rattle.crn_format.specs.Level.{Plane, Running, Chunk, chunks, level, fresh}
 use Rattle.crn_format.specs.Grid.{Shade, chunkCount, inside, insides, positionOf, blockAt}
 use Rattle.crn_format.specs.Grid as grid
-use Rattle.crn_format.specs.Unpacking.{perPlane}
 use Rattle.crn_format.specs.declared.Grid.{Grid}
 use Rattle.crn_format.proofs.Steps.{run-next, answered}
 use Rattle.crn_blocks.specs.Sheet.{In}
@@ -18,25 +16,6 @@ use Rattle.crn_unpacker.specs.States.{stateTo, chunksTo}
 use Rattle.crn_unpacker.proofs.States.{chunks-run, chunk-at}
 use Rattle.crn_chunk_blocks.proofs.Shapes.{Shaped, block-long}
 use Rattle.crn_unpacker.proofs.Shapes.{Sized, chunk-shaped}
-
--- ---- a list with an element for each plane
-
-module _ {A B : Type 0} where
-  pub planes-long : (k : Kind) (c a : A) (d b : B) → length (perPlane k c a) ≡ length (perPlane k d b)
-  unfolding perPlane
-  planes-long DXT1 c a d b = refl
-  planes-long DXT5 c a d b = refl
-  planes-long DXT5A c a d b = refl
-  planes-long DXN c a d b = refl
-  planes-long unknown c a d b = refl
-
-pub planes-bytes : {A : Type 0} (k : Kind) (c a : A) → 8 * length (perPlane k c a) ≡ blockBytes k
-unfolding perPlane
-planes-bytes DXT1 c a = refl
-planes-bytes DXT5 c a = refl
-planes-bytes DXT5A c a = refl
-planes-bytes DXN c a = refl
-planes-bytes unknown c a = refl
 
 -- ---- the chunks
 

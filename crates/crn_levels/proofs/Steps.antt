@@ -7,7 +7,6 @@ use native.Mathlib.Omega.{arith}
 use native.Mathlib.Nat.{suc-mul, mul-le-mul}
 use lib.ListN.{length, take, drop, length-drop}
 use lib.Seq.{take-all, drop-length}
-use lib.Dec.{ltb}
 use borrow.Author.Tests.{leb-true, le-ltb}
 use borrow.Rule.Slice.PartMut.{putMid}
 use Rattle.crn_format.specs.Choice.{pick}
@@ -24,10 +23,10 @@ use Rattle.crn_format.proofs.Passing.{passed-drawn, accepted-passed}
 use Rattle.crn_formats.proofs.Limited.{limited}
 use Rattle.crn_drawing.specs.Unpacks.{answerOf, Unpacks}
 use Rattle.crn_drawing.specs.declared.Unpacked.the-variants.{Blocks, Refused}
-use Rattle.crn_sizes.specs.Sizes.{levelSizes, sizesOf, closeGrid}
+use Rattle.crn_sizes.specs.Sizes.{levelSizes, closeSizes}
 use Rattle.crn_sizes.specs.declared.LevelSizes.{LevelSizes}
 use Rattle.crn_sizes.proofs.Few.{few}
-use Rattle.crn_sizes.proofs.Enough.{bytes-needed}
+use Rattle.crn_sizes.proofs.Enough.{sizes-so, bytes-needed}
 use Rattle.crn_levels.specs.declared.Several.{Several}
 use Rattle.crn_levels.specs.Several.{Far, Ended, begun, further, onward, severalFrom, severalOf, Gives}
 use Rattle.crn_levels.specs.Answers.{noneBy}
@@ -75,11 +74,7 @@ module _ (g : Grid) (faces : g .faces ≤ 6) (columns : g .columns ≤ 1024) (ro
 
 -- ---- a level that went through
 
-pub sizes-so : (h : Header) (n : ℕ) → withinLimits h ≡ true → ltb n (h .levels) ≡ true → levelSizes h n ≡ sizesOf (closeGrid h n)
-unfolding levelSizes
-sizes-so h n a b = simp (a, b)
-
-needed : (h : Header) (n : ℕ) → sizesOf (closeGrid h n) .bytes ≤ reach (gridOf h n (sizesOf (closeGrid h n) .pitch) (sizesOf (closeGrid h n) .distance))
+needed : (h : Header) (n : ℕ) → closeSizes h n .bytes ≤ reach (gridOf h n (closeSizes h n .pitch) (closeSizes h n .distance))
 unfolding gridOf
 needed h n = bytes-needed _ _ _ _
 
@@ -94,7 +89,7 @@ module _ (r : Record) (file : List ℕ) (p : Palettes) (n budget : ℕ) (dst : L
       let a = accepted-passed r file p n (z .pitch) (z .distance) budget dst h in
       let l = limited (r .header) (a .limits) in
       let room : reach g ≤ length dst = leb-true _ _ (a .room) in
-      let so : z ≡ sizesOf (closeGrid (r .header) n) = is ∙ sizes-so (r .header) n (a .limits) (a .number) in
+      let so : z ≡ closeSizes (r .header) n = is ∙ sizes-so (r .header) n (a .limits) (a .number) in
       let all : z .bytes ≤ reach g = rw so (needed (r .header) n) in (
         omega arith,
         ended-few g (l .faces) (few (r .header .width) n (l .width)) (few (r .header .height) n (l .height)) (kindOf (r .header .format))

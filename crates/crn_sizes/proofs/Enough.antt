@@ -4,9 +4,17 @@ use mathlib.Core.Path.{_≡_, sym, ap, _∙_}
 use mathlib.Core.Bool.{true}
 use native.Mathlib.Omega.{arith}
 use native.Mathlib.Nat.{le-refl, suc-mul, mul-assoc, mul-comm, mul-mod-left, zero-mul, mul-zero}
+use lib.Dec.{ltb}
 use borrow.Author.Tests.{le-leb, eq-eqb}
+use Rattle.crn_format.specs.Header.{withinLimits}
 use Rattle.crn_format.specs.Unpacking.{gridFits, reach}
-use Rattle.crn_sizes.specs.Sizes.{close}
+use Rattle.crn_format.specs.declared.Header.{Header}
+use Rattle.crn_sizes.specs.Sizes.{close, closeSizes, levelSizes}
+
+-- of a level that is there
+pub sizes-so : (h : Header) (n : ℕ) → withinLimits h ≡ true → ltb n (h .levels) ≡ true → levelSizes h n ≡ closeSizes h n
+unfolding levelSizes
+sizes-so h n a b = simp (a, b)
 
 -- whose blocks are of so many times four bytes
 

@@ -1,5 +1,6 @@
 // The sizes of a level whose rows and faces stand close together, of any handed header.
 ghost use mathlib.Core.Path.{_≡_};
+ghost use Prim.Native.Nat.{_/_};
 ghost use Rattle.crn_sizes.specs.Sizes.{close, sizesOf, noSizes, levelSizes};
 use crn_bounds::within_limits;
 use crn_format::Header;
@@ -38,7 +39,7 @@ fn no_sizes(refusal: u32) -> LevelSizes
 
 // The sizes of so many faces of so many blocks. The narrow types are wide enough for every level, and no product of them overflows.
 fn sizes_by(faces: u8, columns: u16, rows: u16, block_bytes: u8) -> LevelSizes
-    ensures { λ r. ⌜ r ≡ sizesOf (close faces columns rows «block_bytes») ⌝ }
+    ensures { λ r. ⌜ r ≡ sizesOf («block_bytes» / 8) (close faces columns rows «block_bytes») ⌝ }
 {
     let pitch = columns as usize * block_bytes as usize;
     let distance = rows as usize * pitch;
@@ -51,7 +52,7 @@ fn sizes_by(faces: u8, columns: u16, rows: u16, block_bytes: u8) -> LevelSizes
         pitch: pitch,
         distance: distance,
         bytes: faces as usize * distance,
-        symbols: 8 * chunks * (block_bytes as u64 / 8) + (chunks + 2) / 3,
+        symbols: 8 * (chunks * (block_bytes as u64 / 8)) + (chunks + 2) / 3,
     }
 }
 

@@ -7,6 +7,7 @@ use borrow.Author.Needs.{needs}
 use borrow.Author.Tests.{not-true, not-false, lt-ltb, le-ltb}
 use Rattle.crn_format.specs.Header.{kindOf, withinLimits}
 use Rattle.crn_format.specs.Unpacking.{gridOf}
+use Rattle.crn_format.proofs.Planes.{planes-by-bytes}
 use Rattle.crn_formats.proofs.ByFormat.{bytes-at-most}
 use Rattle.crn_formats.proofs.Limited.{Limited, limited}
 use Rattle.crn_sizes.specs.Sizes.{levelSizes}
@@ -82,6 +83,7 @@ returns-3 c =
       c .before .before .before .before .columns-of .ensures .0 0 0,
       c .before .before .before .rows-of .ensures .0 0 0,
       c .before .before .block-bytes .ensures,
+      planes-by-bytes (kindOf (c .before .before .before .before .before .before .before .before .before .args .header .format)),
     )
 
 pub level-sizes-spec : {M : Type 1} → statement M

@@ -22,8 +22,8 @@ every : (c : tie.Start) → c .args .faces * ((c .args .rows + 1) / 2 * ((c .arg
 every c = mul-le-mul {n₂ = 256} (omega (arith, c .fits .faces .fits)) (chunks c)
 
 symbols : (c : tie.Start)
-    → 8 * (c .args .faces * ((c .args .rows + 1) / 2 * ((c .args .columns + 1) / 2))) * (c .args .block-bytes / 8) ≤ 8 * (256 * (65536 * 65536)) * 256
-symbols c = mul-le-mul {m₂ = 256} (mul-le-mul {n₂ = 8} (omega arith) (every c)) (omega (arith, c .fits .block-bytes .fits))
+    → c .args .faces * ((c .args .rows + 1) / 2 * ((c .args .columns + 1) / 2)) * (c .args .block-bytes / 8) ≤ 256 * (65536 * 65536) * 256
+symbols c = mul-le-mul {m₂ = 256} (every c) (omega (arith, c .fits .block-bytes .fits))
 
 mul-pitch : tie.Need-mul-pitch
 mul-pitch c = omega (arith, row c)
@@ -46,8 +46,8 @@ mul-chunks-2 c = omega (arith, every c)
 mul-t20 : tie.Need-mul-t20
 mul-t20 c = omega (arith, all c)
 
-mul-t17 : tie.Need-mul-t17
-mul-t17 c = omega (arith, every c)
+mul-t14 : tie.Need-mul-t14
+mul-t14 c = omega (arith, symbols c)
 
 mul-t13 : tie.Need-mul-t13
 mul-t13 c = omega (arith, symbols c)
@@ -72,7 +72,7 @@ sizes-by-spec =
     mul-chunks
     mul-chunks-2
     mul-t20
-    mul-t17
+    mul-t14
     mul-t13
     add-t12
     add-t10
