@@ -1,7 +1,6 @@
 -- A plane's eight bytes of a block, as one number, and the palettes that they are made of.
 use Prim.Native.Nat.{ℕ, _+_, _*_, _≤_, _<_}
 use mathlib.Core.Path.{_≡_}
-use mathlib.Core.List.{List}
 use lib.ListN.{length}
 use Rattle.crn_format.specs.Grid.{Shade, color, alpha, half, little}
 

@@ -1,7 +1,7 @@
 // Opens files and unpacks their levels, case by case from standard input, and writes a line for each call. docs/CASES.md has the format.
 
 ghost use mathlib.Core.Path.{_≡_};
-ghost use Prim.Native.Nat.{_+_, _*_, _<_, _≤_};
+ghost use Prim.Native.Nat.{_+_, _<_, _≤_};
 ghost use lib.ListN.{length};
 use crn_edits::edited;
 use crn_format::Header;

@@ -1,6 +1,5 @@
 -- A record with one edit made (docs/CASES.md). `set` at an index out of range changes nothing.
 use Prim.Native.Nat.{ℕ, _%_}
-use mathlib.Core.List.{List}
 use lib.ListN.{set}
 use lib.Dec.{eqb}
 use Rattle.crn_format.specs.Choice.{pick}

@@ -3,7 +3,6 @@ use Prim.Native.Nat.{ℕ, zero, suc, _/_, _%_, _<_}
 use mathlib.Core.Path.{_≡_, refl, sym, ap, subst, _∙_}
 use mathlib.Core.Bool.{Bool, true, false}
 use mathlib.Core.List.{List, [], _∷_, _++_, append-assoc, append-nil}
-use native.Mathlib.Omega.{arith}
 use lib.ListN.{length, getD, drop}
 use lib.Dec.{ltb}
 use borrow.Author.Tests.{ltb-true}

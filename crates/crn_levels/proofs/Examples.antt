@@ -16,7 +16,7 @@ use Rattle.crn_format.specs.declared.Table.{Table}
 use Rattle.crn_format.specs.declared.Header.{Header}
 use Rattle.crn_format.specs.declared.Record.{Record}
 use Rattle.crn_sizes.specs.Sizes.{levelSizes}
-use Rattle.crn_levels.specs.Several.{Ended, onward, severalFrom, severalOf}
+use Rattle.crn_levels.specs.Several.{onward, severalFrom, severalOf}
 
 none : Part
 none = record { offset = 0; size = 0; count = 0 }

@@ -1,5 +1,5 @@
 -- How many blocks the limits leave to a level.
-use Prim.Native.Nat.{ℕ, _+_, _/_, _^_, _≤_}
+use Prim.Native.Nat.{ℕ, _/_, _^_, _≤_}
 use mathlib.Core.Bool.{Bool, true, false}
 use native.Mathlib.Omega.{arith}
 use native.Mathlib.Nat.{div-le-self, le-trans}

@@ -12,7 +12,7 @@ use borrow.Author.Tests.{lt-ltb, le-ltb, le-leb, lt-leb}
 use Rattle.crn_format.specs.Choice.{pick}
 use Rattle.crn_format.specs.Bits.{bitCount, spelled}
 use Rattle.crn_format.specs.Codes.{Drawn, symbolAt, failed}
-use Rattle.crn_symbol_codec.specs.Decoders.{walk, find, front, firstBy, offBy}
+use Rattle.crn_symbol_codec.specs.Decoders.{walk, find, firstBy, offBy}
 use Rattle.crn_symbol_codec.proofs.Walking.{walk-ended, walk-more}
 
 pub first-step : (cs : List ℕ) (k : ℕ) → firstBy cs (k + 1) ≡ 2 * (firstBy cs k + getD cs (k + 1) 0)

@@ -9,13 +9,13 @@ use borrow.Author.Tests.{eq-eqb, ne-eqb}
 use lib.ListN.{getD}
 use lib.Dec.{eqb, ltb}
 use Rattle.crn_format.specs.Choice.{pick}
-use Rattle.crn_format.specs.Reading.{got, run}
+use Rattle.crn_format.specs.Reading.{got}
 use Rattle.crn_format.specs.Level.{chunk}
 use Rattle.crn_format.specs.Grid.{chunkColumns}
 use Rattle.crn_format.specs.declared.Grid.{Grid}
 use Rattle.crn_symbol_codec.specs.Cursors.{Holds}
-use Rattle.crn_chunks.specs.Meaning.{source, spending, stopped, planes, runningOf, chunkOf, Onward}
-use Rattle.crn_chunks.specs.Reads.{Reads, chunked, insideOf}
+use Rattle.crn_chunks.specs.Meaning.{stopped, planes, chunkOf, Onward}
+use Rattle.crn_chunks.specs.Reads.{Reads, chunked}
 use Rattle.crn_chunks.specs.declared.Carried.{Carried}
 use Rattle.crn_chunks.specs.declared.Stream.{Stream}
 use Rattle.crn_chunks.specs.declared.Stop.{Stop}

@@ -1,8 +1,7 @@
 -- What the functions that go over the chunks of a level ask and give.
-use Prim.Native.Nat.{ℕ, _+_, _*_, _/_, _%_, _<_}
+use Prim.Native.Nat.{ℕ, _*_, _/_, _%_, _<_}
 use mathlib.Core.Path.{_≡_}
-use mathlib.Core.Bool.{Bool, true, false}
-use mathlib.Core.List.{List, []}
+use mathlib.Core.List.{List}
 use lib.ListN.{length}
 use Rattle.crn_format.specs.Choice.{pick}
 use Rattle.crn_format.specs.Limits.{tooLong}

@@ -1,9 +1,9 @@
 -- A turn of the tally.
-use Prim.Native.Nat.{ℕ, zero, suc, _+_, _-_, _%_, _^_, _<_, _≤_}
+use Prim.Native.Nat.{ℕ, suc, _+_, _-_, _%_, _^_, _<_, _≤_}
 use mathlib.Core.List.{List}
-use mathlib.Core.Path.{_≡_, refl, sym, ap, _∙_}
+use mathlib.Core.Path.{_≡_, sym, ap, _∙_}
 use native.Mathlib.Omega.{arith}
-use Rattle.crn_format.specs.Reading.{Reading, aSymbol, Step, got, refused, Place, spot, start, run, fromBits}
+use Rattle.crn_format.specs.Reading.{aSymbol, spot, start, run, fromBits}
 use Rattle.crn_format.proofs.Steps.{answered}
 use Rattle.crn_symbol_codec.specs.Cursors.{place, Holds}
 use Rattle.crn_symbol_codec.specs.Taking.{Takes}

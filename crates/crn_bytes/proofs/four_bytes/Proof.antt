@@ -1,5 +1,4 @@
 -- Four bytes, the first highest: those of `four_low`, exchanged.
-use native.Mathlib.Omega.{arith}
 use borrow.Author.Needs.{needs}
 use Rattle.crn_bytes.proofs.Bytes.{by-four}
 use Rattle.crn_bytes.proofs.four_bytes.Statement.{statement}

@@ -1,6 +1,5 @@
 -- `take_first`: the part that is read is as long as asked.
-use mathlib.Core.Path.{_≡_, sym}
-use native.Mathlib.Omega.{arith}
+use mathlib.Core.Path.{sym}
 use lib.ListN.{length}
 use lib.Seq.{length-take-le}
 use borrow.Author.Needs.{needs}

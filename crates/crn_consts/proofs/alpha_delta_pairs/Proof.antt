@@ -1,7 +1,6 @@
 -- The delta pairs: the checker computes the test of the rule over the whole table.
 use mathlib.Core.Path.{refl}
 use Rattle.crn_consts.proofs.Rule.{ruled, bounded}
-use borrow.Author.Needs.{needs}
 use Rattle.crn_consts.proofs.alpha_delta_pairs.Statement.{statement}
 use Rattle.crn_consts.proofs.alpha_delta_pairs.Tie as tie
 

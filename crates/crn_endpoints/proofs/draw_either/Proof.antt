@@ -4,7 +4,6 @@ use mathlib.Core.Bool.{Bool, true, false}
 use mathlib.Core.Logic.{⊎-elim}
 use mathlib.Core.Path.{_≡_}
 use native.Mathlib.Omega.{arith}
-use borrow.Author.Needs.{needs}
 use Rattle.crn_endpoints.proofs.draw_either.Statement.{statement}
 use Rattle.crn_endpoints.proofs.draw_either.Tie as tie
 

@@ -1,6 +1,5 @@
 -- Which channels have six bits.
 use borrow.Author.Tests.{eq-eqb, ne-eqb}
-use borrow.Author.Needs.{needs}
 use Rattle.crn_endpoints.proofs.six_bits.Statement.{statement}
 use Rattle.crn_endpoints.proofs.six_bits.Tie as tie
 

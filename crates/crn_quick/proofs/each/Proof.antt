@@ -1,7 +1,6 @@
 -- n for each plane.
 use mathlib.Core.Path.{sym}
 use native.Mathlib.Omega.{arith}
-use borrow.Author.Needs.{needs}
 use Rattle.crn_quick.proofs.Joining.{each-one, each-two}
 use Rattle.crn_quick.proofs.each.Statement.{statement}
 use Rattle.crn_quick.proofs.each.Tie as tie

@@ -2,7 +2,6 @@
 use Prim.Native.Nat.{_-_}
 use mathlib.Core.Bool.{Bool, true}
 use native.Mathlib.Omega.{arith}
-use borrow.Author.Needs.{needs}
 use lib.ListN.{getD, length-set}
 use Rattle.crn_chunks.specs.Reads.{insideOf}
 use Rattle.crn_chunks.proofs.Picking.{reach-at}

@@ -1,5 +1,4 @@
 -- A symbol by the quick way.
-use mathlib.Core.Path.{refl}
 use native.Mathlib.Omega.{arith}
 use Rattle.crn_symbol_codec.specs.Decoders.{Usable, Decodes}
 use Rattle.crn_chunks.proofs.Drawing.{lookup-end, sorted-end, in-slices}

@@ -1,9 +1,9 @@
 -- The entries of an alpha selector palette, three words each. The invariant: those before i are in the buffer, as its first k words, and what is left of them ends as all of
 -- them do.
-use Prim.Native.Nat.{ℕ, _+_, _*_, _-_, _<_}
+use Prim.Native.Nat.{ℕ, _*_, _-_, _<_}
 use mathlib.Core.Bool.{true}
-use mathlib.Core.List.{List, [], _∷_}
-use mathlib.Core.Path.{_≡_, refl, sym, ap, _∙_}
+use mathlib.Core.List.{List}
+use mathlib.Core.Path.{_≡_, sym, ap, _∙_}
 use native.Mathlib.Omega.{arith}
 use Rattle.crn_format.specs.Palettes.{changed, alphaSelectorWords}
 use Rattle.crn_symbol_codec.specs.Decoders.{Decodes}

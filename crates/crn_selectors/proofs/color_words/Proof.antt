@@ -1,6 +1,6 @@
 -- The entries of a colour selector palette. The invariant: those before i are in the buffer, and what is left of them ends as all of
 -- them do.
-use Prim.Native.Nat.{ℕ, _+_, _*_, _-_, _<_}
+use Prim.Native.Nat.{ℕ, _-_, _<_}
 use mathlib.Core.Bool.{false}
 use mathlib.Core.List.{List, [], _∷_}
 use mathlib.Core.Path.{_≡_, refl, sym, ap, _∙_}

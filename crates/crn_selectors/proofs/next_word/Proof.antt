@@ -1,5 +1,5 @@
 -- Eight symbols change the pairs. The invariant: what is left of them, run from here, ends as all of them do, and the pairs so far are written.
-use Prim.Native.Nat.{ℕ, _*_, _-_, _<_}
+use Prim.Native.Nat.{ℕ, _*_, _-_}
 use mathlib.Core.Bool.{Bool}
 use mathlib.Core.List.{List}
 use mathlib.Core.Path.{_≡_, refl, ap, _∙_}

@@ -1,5 +1,4 @@
 -- Twice the bits of a value.
-use borrow.Author.Needs.{needs}
 use Rattle.crn_selectors.proofs.pair_bits.Statement.{statement}
 use Rattle.crn_selectors.proofs.pair_bits.Tie as tie
 

@@ -1,5 +1,4 @@
 -- How many symbols have a meaning.
-use borrow.Author.Needs.{needs}
 use Rattle.crn_selectors.proofs.pairs.Statement.{statement}
 use Rattle.crn_selectors.proofs.pairs.Tie as tie
 

@@ -2,7 +2,7 @@
 use Prim.Native.Nat.{_≤_, _-_}
 use mathlib.Core.Path.{_≡_}
 use native.Mathlib.Omega.{arith}
-use lib.ListN.{length, length-set, length-replicate}
+use lib.ListN.{length, length-set}
 use borrow.Author.Needs.{needs}
 use Rattle.crn_tables.proofs.lengths_of.Statement.{statement}
 use Rattle.crn_tables.proofs.lengths_of.Tie as tie

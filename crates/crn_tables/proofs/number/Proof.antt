@@ -1,5 +1,4 @@
 -- `number`: the next cursor holds, by what taking a number ensures.
-use native.Mathlib.Omega.{arith}
 use Rattle.crn_symbol_codec.proofs.Serving.{taken-holds}
 use borrow.Author.Needs.{needs}
 use Rattle.crn_tables.proofs.number.Statement.{statement}

@@ -1,6 +1,5 @@
 -- `operations`. Invariant: the cursor holds.
 use Prim.Native.Nat.{_≤_, _-_}
-use native.Mathlib.Omega.{arith}
 use Rattle.crn_symbol_codec.specs.Cursors.{Holds}
 use borrow.Author.Needs.{needs}
 use Rattle.crn_tables.proofs.operations.Statement.{statement}

@@ -1,6 +1,6 @@
 -- `total` is the tally of n draws. Invariant: what is left to be drawn from here is the whole.
-use Prim.Native.Nat.{ℕ, _-_}
-use mathlib.Core.Path.{_≡_, refl, sym, ap, _∙_}
+use Prim.Native.Nat.{_-_}
+use mathlib.Core.Path.{ap}
 use native.Mathlib.Omega.{arith}
 use borrow.Author.Needs.{needs}
 use Rattle.draw_bench.proofs.Tallying.{Tallied, begins, done, fails, more}

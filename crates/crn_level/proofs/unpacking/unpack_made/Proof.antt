@@ -2,7 +2,6 @@
 use mathlib.Core.Path.{sym}
 use lib.ListN.{length}
 use Rattle.crn_format.specs.declared.Tables.{Tables}
-use Rattle.crn_format.specs.declared.Record.{Record}
 use Rattle.crn_formats.specs.Lent.{lentOf}
 use Rattle.crn_drawing.specs.Levels.{recordWith, Made, Checked}
 use Rattle.crn_drawing.proofs.ByRecord.{fit-by, level-by}
