@@ -1,10 +1,10 @@
 -- The tables of a record as slices, and the decoder tables of a level: of which codes they are, and where they stand.
 use Prim.Native.Nat.{ℕ, _+_, _*_, _^_, _<_, _≤_}
 use mathlib.Core.Path.{_≡_}
-use mathlib.Core.Bool.{Bool, true, _&&_}
+use mathlib.Core.Bool.{Bool, true, _&&_, _||_}
 use mathlib.Core.List.{List, [], _∷_}
 use lib.ListN.{length, take}
-use lib.Dec.{leb}
+use lib.Dec.{eqb, leb, ltb}
 use Rattle.crn_format.specs.Choice.{pick, both}
 use Rattle.crn_format.specs.Limits.{maxSymbols}
 use Rattle.crn_format.specs.Codes.{allFit}
@@ -54,14 +54,19 @@ pub record AllFair (c : Counts) (chunk colorEnds colorSels alphaEnds alphaSels :
 abbrev pub allFew : Counts → Bool
 allFew c = (((leb (c .chunk) 1024 && leb (c .«color_ends») 1024) && leb (c .«color_sels») 1024) && leb (c .«alpha_ends») 1024) && leb (c .«alpha_sels») 1024
 
--- the sizes for a level of so many columns and rows of blocks: a small level has small lookups, since large ones would take longer than its draws
+-- the tables of one plane alone are there, and the level is large
+abbrev pub wideFor : Counts → ℕ → ℕ → Bool
+wideFor c columns rows = (eqb (c .«color_ends») 0 || eqb (c .«alpha_ends») 0) && (ltb 64 columns || ltb 64 rows)
+
+-- the sizes for a level of so many columns and rows of blocks: a small level has small lookups, since large ones would take longer than its draws,
+-- and a large one of many symbols has large ones, unless they are too many
 unfoldable pub sizesFor : Counts → ℕ → ℕ → Sizes
 sizesFor c columns rows =
     pick (allFew c)
     (pick (leb columns 16 && leb rows 16)
     (sizes (pick (leb columns 4 && leb rows 4) 5 8) 288 1024)
     (sizes 11 2080 1024))
-    (sizes 11 2080 8192)
+    (pick (wideFor c columns rows) (sizes 12 4128 8192) (sizes 11 2080 8192))
   where
     sizes : ℕ → ℕ → ℕ → Sizes
     sizes most words symbols = record { most = most; «lookup_step» = words; «sorted_step» = symbols }

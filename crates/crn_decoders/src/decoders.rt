@@ -5,7 +5,7 @@ ghost use mathlib.Core.Path.{_≡_};
 ghost use mathlib.Core.List.{List};
 ghost use Prim.Native.Nat.{ℕ, _+_, _<_};
 ghost use lib.ListN.{length, take};
-ghost use Rattle.crn_decoders.specs.Tables.{Fair, AllFair, Able, CodedTo, allFew, sizesFor, codesBy, tablesIn};
+ghost use Rattle.crn_decoders.specs.Tables.{Fair, AllFair, Able, CodedTo, allFew, wideFor, sizesFor, codesBy, tablesIn};
 
 // How many first bits of a code are looked up, and how far apart two lookups are and the sorted symbols of two tables.
 pub struct Sizes {
@@ -22,6 +22,13 @@ fn few(counts: Counts) -> bool
         & (counts.color_sels <= 1024)
         & (counts.alpha_ends <= 1024)
         & (counts.alpha_sels <= 1024)
+}
+
+// Whether one plane's tables serve a large level: three lookups of 12 bits stay near the processor, five would not.
+fn wide(counts: Counts, columns: usize, rows: usize) -> bool
+    ensures { λ r. ⌜ r ≡ wideFor counts columns rows ⌝ }
+{
+    ((counts.color_ends == 0) | (counts.alpha_ends == 0)) & ((64 < columns) | (64 < rows))
 }
 
 // The sizes for a level of so many columns and rows of blocks, of whose tables no more is zeroed than is needed.
@@ -42,6 +49,9 @@ pub fn sizes_for(counts: Counts, columns: usize, rows: usize) -> Sizes
                 s.most = 5;
             }
         }
+    } else if wide(counts, columns, rows) {
+        s.lookup_step = 4128;
+        s.most = 12;
     }
     s
 }

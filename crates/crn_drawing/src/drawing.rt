@@ -249,7 +249,7 @@ pub fn draw_level<'a>(
             dst,
         );
     }
-    let mut lookup = [0u32; 10400];
+    let mut lookup = [0u32; 20640];
     let mut sorted = [0u16; 40960];
     draw_with(
         h,

@@ -280,7 +280,7 @@ pub fn unpack_levels<'a>(
             dst,
         );
     }
-    let mut lookup = [0u32; 10400];
+    let mut lookup = [0u32; 20640];
     let mut sorted = [0u16; 40960];
     levels_in(
         header,

@@ -94,7 +94,7 @@ slice-aggregate-levels-in-4 : tie.Need-slice-aggregate-levels-in-4
 slice-aggregate-levels-in-4 c = search needs
 
 levels-in-requires-2 : tie.Need-levels-in-requires-2
-levels-in-requires-2 c κs = (within (c .before .before .before .before .before .before .before .before .before .before .before .before .before .before .before .before .before .before .before .before .before .before .before .before .before), (holds (c .before .before .before .before .before .before .before .before .before .before .before .before .before .before .before .before .before .before), (fair (c .before .before .before .before .before .before .before .before .before .before .before .before .before), able-in 2080 1024 (chosen (c .before .before .before .before .before .before .before .before .before .before .before .before .before)) (chosen (c .before .before .before .before .before .before .before .before .before .before .before .before .before) .words) (c .before .before .before .before .before .before .before .before .before .before .before .if4 .taken))))
+levels-in-requires-2 c κs = (within (c .before .before .before .before .before .before .before .before .before .before .before .before .before .before .before .before .before .before .before .before .before .before .before .before .before), (holds (c .before .before .before .before .before .before .before .before .before .before .before .before .before .before .before .before .before .before), (fair (c .before .before .before .before .before .before .before .before .before .before .before .before .before), able-in 2080 1024 (chosen (c .before .before .before .before .before .before .before .before .before .before .before .before .before)) (chosen (c .before .before .before .before .before .before .before .before .before .before .before .before .before) .fewer (c .before .before .before .before .before .before .before .before .before .before .before .if4 .taken)) (c .before .before .before .before .before .before .before .before .before .before .before .if4 .taken))))
 
 same-length-2 : tie.Need-same-length-2
 same-length-2 c = search needs
@@ -109,7 +109,7 @@ slice-aggregate-levels-in-6 : tie.Need-slice-aggregate-levels-in-6
 slice-aggregate-levels-in-6 c = search needs
 
 levels-in-requires-3 : tie.Need-levels-in-requires-3
-levels-in-requires-3 c κs = (within (c .before .before .before .before .before .before .before .before .before .before .before .before .before .before .before .before .before .before .before .before .before .before .before), (holds (c .before .before .before .before .before .before .before .before .before .before .before .before .before .before .before .before), (fair (c .before .before .before .before .before .before .before .before .before .before .before), able-in 2080 8192 (chosen (c .before .before .before .before .before .before .before .before .before .before .before)) (chosen (c .before .before .before .before .before .before .before .before .before .before .before) .words) (chosen (c .before .before .before .before .before .before .before .before .before .before .before) .symbols))))
+levels-in-requires-3 c κs = (within (c .before .before .before .before .before .before .before .before .before .before .before .before .before .before .before .before .before .before .before .before .before .before .before), (holds (c .before .before .before .before .before .before .before .before .before .before .before .before .before .before .before .before), (fair (c .before .before .before .before .before .before .before .before .before .before .before), able-in 4128 8192 (chosen (c .before .before .before .before .before .before .before .before .before .before .before)) (chosen (c .before .before .before .before .before .before .before .before .before .before .before) .words) (chosen (c .before .before .before .before .before .before .before .before .before .before .before) .symbols))))
 
 same-length-3 : tie.Need-same-length-3
 same-length-3 c = search needs

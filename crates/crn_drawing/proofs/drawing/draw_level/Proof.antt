@@ -45,7 +45,7 @@ draw-with-requires-2 : tie.Need-draw-with-requires-2
 draw-with-requires-2 c κs =
     let s = c .before .before .before .before .before .before .before .before .before .before .before .before .before .before .before .before .before .before .before .before in
     let z = chosen (c .before .before .before .before .before .before .before .before) in
-    (s .pre .0, (all-fair (tables s) _ (s .pre .1) (s .pre .0 .tables) (z .room (at-most (tables s) (s .pre .0 .tables))), able-in 2080 1024 z (z .words) (c .before .before .before .before .before .before .if1 .taken)))
+    (s .pre .0, (all-fair (tables s) _ (s .pre .1) (s .pre .0 .tables) (z .room (at-most (tables s) (s .pre .0 .tables))), able-in 2080 1024 z (z .fewer (c .before .before .before .before .before .before .if1 .taken)) (c .before .before .before .before .before .before .if1 .taken)))
 
 same-length-2 : tie.Need-same-length-2
 same-length-2 c = search needs
@@ -63,7 +63,7 @@ draw-with-requires-3 : tie.Need-draw-with-requires-3
 draw-with-requires-3 c κs =
     let s = c .before .before .before .before .before .before .before .before .before .before .before .before .before .before .before .before .before .before in
     let z = chosen (c .before .before .before .before .before .before) in
-    (s .pre .0, (all-fair (tables s) _ (s .pre .1) (s .pre .0 .tables) (z .room (at-most (tables s) (s .pre .0 .tables))), able-in 2080 8192 z (z .words) (z .symbols)))
+    (s .pre .0, (all-fair (tables s) _ (s .pre .1) (s .pre .0 .tables) (z .room (at-most (tables s) (s .pre .0 .tables))), able-in 4128 8192 z (z .words) (z .symbols)))
 
 same-length-3 : tie.Need-same-length-3
 same-length-3 c = search needs
