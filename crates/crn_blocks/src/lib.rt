@@ -114,9 +114,9 @@ fn pair(dst: &[u8], at: usize) -> u32
     dst[at] as u32 + 256 * (dst[at + 1] as u32)
 }
 
-// The cut-outs of a row of blocks, and of a face.
-fn cutouts_row(dst: &[u8], g: Grid, face: usize, y: usize) -> u64
-    requires { ⌜ Room g (length (now dst)) ⌝ ∗ ⌜ face < g .faces ⌝ ∗ ⌜ y < g .rows ⌝ }
+// The cut-outs of a row of blocks. The blocks' bytes are told once more, since those of DXT1 are known: the compiler then makes a shorter loop.
+fn cutouts_by(dst: &[u8], g: Grid, face: usize, y: usize, bytes: usize) -> u64
+    requires { ⌜ Room g (length (now dst)) ⌝ ∗ ⌜ face < g .faces ⌝ ∗ ⌜ y < g .rows ⌝ ∗ ⌜ bytes ≡ g .bytes ⌝ }
     ensures { λ r. ⌜ (r ≡ rowCutouts (standing g (now (dst .entry))) face y (g .columns)) × (r ≤ 65536) ⌝ }
 {
     let mut n: u64 = 0;
@@ -126,12 +126,23 @@ fn cutouts_row(dst: &[u8], g: Grid, face: usize, y: usize) -> u64
         if pair(dst, at) < pair(dst, at + 2) {
             n += 1;
         }
-        at += g.bytes;
+        at += bytes;
         x += 1;
     }
     n
 }
 
+fn cutouts_row(dst: &[u8], g: Grid, face: usize, y: usize) -> u64
+    requires { ⌜ Room g (length (now dst)) ⌝ ∗ ⌜ face < g .faces ⌝ ∗ ⌜ y < g .rows ⌝ }
+    ensures { λ r. ⌜ (r ≡ rowCutouts (standing g (now (dst .entry))) face y (g .columns)) × (r ≤ 65536) ⌝ }
+{
+    if g.bytes == 8 {
+        return cutouts_by(dst, g, face, y, 8);
+    }
+    cutouts_by(dst, g, face, y, g.bytes)
+}
+
+// The cut-outs of a face.
 fn cutouts_face(dst: &[u8], g: Grid, face: usize) -> u64
     requires { ⌜ Room g (length (now dst)) ⌝ ∗ ⌜ face < g .faces ⌝ }
     ensures { λ r. ⌜ (r ≡ faceCutouts g (standing g (now (dst .entry))) face (g .rows)) × (r ≤ 4294967296) ⌝ }
