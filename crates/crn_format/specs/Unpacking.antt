@@ -125,7 +125,7 @@ shadesOf k p = perPlane k (color (p .colorEnds) (p .colorSels)) (alpha (p .alpha
 abbrev pub planeCount : Kind → ℕ
 planeCount k = length (perPlane {A = Unit {0}} k tt tt)
 
--- the most symbols that a level may take: "eight symbols for each chunk and plane plus one for each started group of three chunks"
+-- the full symbol allowance (demand 3): eight symbols for each chunk and plane, and one for each started group of three chunks
 abbrev pub allowance : ℕ → ℕ → ℕ
 allowance chunks planes = 8 * (chunks * planes) + (chunks + 2) / 3
 
