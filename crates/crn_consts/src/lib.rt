@@ -43,7 +43,9 @@ pub fn tiles(encoding: u32) -> u32
     requires { ⌜ encoding < 8 ⌝ }
     ensures { λ r. ⌜ Tiles encoding r ⌝ }
 {
-    ((tables::CHUNK_ENCODING_TILES >> (8 * encoding)) % 256) as u32
+    let upper = (tables::CHUNK_ENCODING_UPPER_TILES >> (4 * encoding)) % 16;
+    let lower = (tables::CHUNK_ENCODING_LOWER_TILES >> (4 * encoding)) % 16;
+    upper + 16 * lower
 }
 
 // How a block writes a colour selector's value.

@@ -4,9 +4,11 @@
 // stack at each call.)
 pub const CHUNK_ENCODING_NUM_TILES: u32 = 0x43333221;
 
-// The tiles at a chunk's four positions, left-top, right-top, left-bottom, right-bottom, for each encoding: two bits each, so a byte
-// for an encoding, encoding 0 lowest.
-pub const CHUNK_ENCODING_TILES: u64 = 0xe4_21_84_09_90_44_50_00;
+// The tiles at a chunk's two upper positions, left and right, and at its two lower ones, for each encoding: two bits each, so four for an encoding, encoding 0
+// lowest. (A processor has numbers of 32 bits sooner at hand than one of 64.)
+pub const CHUNK_ENCODING_UPPER_TILES: u32 = 0x41490400;
+
+pub const CHUNK_ENCODING_LOWER_TILES: u32 = 0xe2809450;
 
 // How a block writes a selector value, of a colour and of an alpha.
 pub const DXT1_FROM_LINEAR: [u8; 4] = [0, 2, 3, 1];
