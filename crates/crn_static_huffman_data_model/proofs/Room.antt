@@ -14,7 +14,8 @@ use borrow.Author.Tests.{eq-eqb, ne-eqb, le-leb, lt-leb, le-ltb, lt-ltb}
 use Rattle.crn_format.specs.Choice.{pick, both}
 use Rattle.crn_format.specs.Codes.{below, used, longestUpTo, longest, room, allFit, isCode}
 use Rattle.crn_format.proofs.Drawing.{below-lt, used-pos, last-above}
-use Rattle.crn_static_huffman_data_model.specs.Building.{shareOf, shareBy, Sums, Short, Counted, Last}
+use Rattle.crn_static_huffman_data_model.specs.Building.{Passed, shareOf, shareBy, Sums, Short, Counted, Last}
+use Rattle.crn_static_huffman_data_model.proofs.Passing.{passing}
 
 never : _≡_ {A = Bool} true false → ⊥
 never e = let z : _≡_ {A = ℕ} 0 1 = cc in omega arith
@@ -161,10 +162,13 @@ sums-more t n s r u e h = go (decLe (getD t n 0) 16)
           few = omega (arith, u .few);
         }
 
-pub sums-pass : (t : List ℕ) (n s : ℕ) → getD t n 0 ≡ 0 → Sums t n s → Sums t (n + 1) s
-sums-pass t n s z u =
+sums-skip : (t : List ℕ) (s n : ℕ) → getD t n 0 ≡ 0 → Sums t n s → Sums t (n + 1) s
+sums-skip t s n z u =
     let same = fit-same t n (omega arith) in
     record { fits = λ f. u .fits (sym same ∙ f) ∙ sym (room-skip t n z); long = λ f. u .long (sym same ∙ f); few = omega (arith, u .few) }
+
+pub sums-pass : (t : List ℕ) (y z s : ℕ) → Passed t y z → Sums t y s → Sums t z s
+sums-pass t y z s n = passing t (λ (k : ℕ). Sums t k s) y z n (sums-skip t s)
 
 pub code-sums : (t : List ℕ) (s : ℕ) → Sums t (length t) s → isCode t ≡ both (leb s 65536) (ltb 0 s)
 code-sums t s u = go (allFit t (length t)) refl
