@@ -11,4 +11,5 @@ fn main() {
     println!("cargo:rustc-link-lib=static=crunch_abi");
     println!("cargo:rerun-if-changed={}", folder.join("libcrunch_abi.a").display());
     println!("cargo:rerun-if-changed={}", root.join("crates").display());
+    println!("cargo:rerun-if-changed={}", root.join("rust/archive").display());
 }
