@@ -25,7 +25,7 @@ pub record Shaped (m : ℕ) (c : Chunk) : Type 0 where
 
 -- ---- its blocks
 
-half-long : (p : Shade) (e s : ℕ) → length (half p e s) ≡ 8
+pub half-long : (p : Shade) (e s : ℕ) → length (half p e s) ≡ 8
 unfolding half little
 half-long (color ends sels) e s = refl
 half-long (alpha ends sels) e s = refl

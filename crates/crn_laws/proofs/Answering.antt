@@ -1,22 +1,23 @@
 -- What a level that passes its checks answers: its blocks by the script where it has one, and a script where it is accepted.
-use Prim.Native.Nat.{ℕ, _≤_}
+use Prim.Native.Nat.{ℕ, _+_, _*_, _≤_}
 use mathlib.Core.Path.{_≡_, refl, sym, ap, ap₂, subst, _∙_}
-use mathlib.Core.List.{List}
+use mathlib.Core.List.{List, [], _∷_}
 use native.Mathlib.Omega.{arith}
 use native.Mathlib.Decide.{decLe}
-use lib.ListN.{length}
+use lib.ListN.{length, length-append}
 use Rattle.crn_format.specs.Reading.{Step, got, refused, Place, start, fromBits}
 use Rattle.crn_format.specs.Header.{Kind, DXT1, DXT5, DXT5A, DXN, unknown}
 use Rattle.crn_format.specs.Level.{Chunk}
-use Rattle.crn_format.specs.Grid.{blockAt, painted}
-use Rattle.crn_format.specs.Unpacking.{planesOf, unpacked, declined, cutoutCount}
+use Rattle.crn_format.specs.Grid.{Shade, color, alpha, half, blockAt, painted}
+use Rattle.crn_format.specs.Unpacking.{planesOf, gridOf, unpacked, declined, cutoutCount}
 use Rattle.crn_format.specs.declared.Grid.{Grid}
-use Rattle.crn_format.proofs.Planes.{planes-long}
+use Rattle.crn_format.proofs.Planes.{planes-long, planes-bytes}
 use Rattle.crn_blocks.specs.Sheet.{In}
 use Rattle.crn_blocks.proofs.Whole.{painted-same, cutouts-same}
+use Rattle.crn_chunk_blocks.proofs.Shapes.{half-long}
 use Rattle.crn_laws.specs.Scripts.{Draws}
 use Rattle.crn_laws.specs.Levels.{Given, gridIn, kindIn, shadesIn, segmentIn, unpackingIn, Passes, ScriptOf, symbolsOf, Accepted, RefusedBy}
-use Rattle.crn_laws.specs.Blocks.{blocksBy}
+use Rattle.crn_laws.specs.Blocks.{halvesBy, blockBy, blocksBy}
 use Rattle.crn_laws.proofs.Trying.{as-many}
 use Rattle.crn_laws.proofs.Placing.{block-is}
 use Rattle.crn_laws.proofs.Ending.{reading, ran, triedIn, answered, never, with-enough, with-less, script-of, chunksIn, took, not-15}
@@ -29,6 +30,18 @@ cutouts-by DXT5 block other same = refl
 cutouts-by DXT5A block other same = refl
 cutouts-by DXN block other same = refl
 cutouts-by unknown block other same = refl
+
+-- a block by its position and the script has a block's bytes
+halves-long : (ss : List Shade) (e s : ℕ → ℕ) (k : ℕ) → length (halvesBy ss e s k) ≡ 8 * length ss
+unfolding halvesBy
+halves-long [] e s k = refl
+halves-long (p ∷ ps) e s k =
+    length-append (half p (e k) (s k)) (halvesBy ps e s (k + 1)) ∙ omega (arith, half-long p (e k) (s k), halves-long ps e s (k + 1))
+
+pub blocks-long : (v : Given) (ds : List Draws) (f x y : ℕ) → length (blocksBy v ds f x y) ≡ gridIn v .bytes
+unfolding blockBy gridOf
+blocks-long v ds f x y =
+    halves-long (shadesIn v) _ _ 0 ∙ planes-bytes (kindIn v) (color (v .palettes .colorEnds) (v .palettes .colorSels)) (alpha (v .palettes .alphaEnds) (v .palettes .alphaSels))
 
 module _ (v : Given) (c : Passes v) where
   module _ (ds : List Draws) (s : ScriptOf v ds) where

@@ -37,12 +37,21 @@ pub blank-leaves : {g : Grid} (b : List ℕ) → Room g (length b) → Leaves g 
 blank-leaves {g} b room =
     painted-leaves b room (blank g) (λ f x y at. length-replicate (g .bytes) 0) (λ f x y k. 0) (λ f x y k h. getD-replicate (g .bytes) k 0 0 h)
 
+-- a byte of a block is what its block has there
+by-block : {g : Grid} {byte : ℕ → ℕ → ℕ → ℕ → ℕ} {b a : List ℕ} {i : ℕ} → Leaves g byte b a → (h : InBlock g i)
+    → getD a i 0 ≡ byte (h .face) (h .column) (h .row) (h .byte)
+by-block {a = a} l h = ap (λ (j : ℕ). getD a j 0) (h .here) ∙ l .blocks (h .face) (h .column) (h .row) (h .byte) (h .block) (h .small)
+
 -- each byte by itself: what its block has there, or what it was
 pub each-byte : {g : Grid} {byte : ℕ → ℕ → ℕ → ℕ → ℕ} {b a : List ℕ} → Leaves g byte b a → (i : ℕ)
     → ((h : InBlock g i) × (getD a i 0 ≡ byte (h .face) (h .column) (h .row) (h .byte))) ⊎ ((InBlock g i → ⊥) × (getD a i 0 ≡ getD b i 0))
-each-byte {a = a} l i =
-    ⊎-elim (λ h. inl (h, ap (λ (j : ℕ). getD a j 0) (h .here) ∙ l .blocks (h .face) (h .column) (h .row) (h .byte) (h .block) (h .small)))
-    (λ out. inr (out, l .others i out)) (l .each i)
+each-byte l i = ⊎-elim (λ h. inl (h, by-block l h)) (λ out. inr (out, l .others i out)) (l .each i)
+
+-- so only one list can be left
+pub same-leaves : {g : Grid} {byte : ℕ → ℕ → ℕ → ℕ → ℕ} {b a c : List ℕ} → Leaves g byte b a → Leaves g byte b c → a ≡ c
+same-leaves {a = a} {c = c} l m =
+    ext-getD 0 a c (l .long ∙ sym (m .long))
+    (λ i _. ⊎-elim (λ h. by-block l h ∙ sym (by-block m h)) (λ out. l .others i out ∙ sym (m .others i out)) (l .each i))
 
 -- ---- where every block lies in the first m bytes
 

@@ -1,5 +1,5 @@
 -- Every level ends with blocks or with one of its twelve refusals, and leaves the destination as document 01 says.
-use Prim.Native.Nat.{ℕ, _-_, _≤_}
+use Prim.Native.Nat.{ℕ, _+_, _-_, _≤_}
 use mathlib.Core.Bool.{Bool, true, false}
 use mathlib.Core.List.{List, []}
 use mathlib.Core.Path.{_≡_, refl, sym, subst, _∙_}
@@ -11,24 +11,25 @@ use Rattle.crn_format.specs.Reading.{Step, got, refused, Spending, start, run, 
 use Rattle.crn_format.specs.Header.{kindOf, withinLimits}
 use Rattle.crn_format.specs.Opening.{Palettes}
 use Rattle.crn_format.specs.Level.{Chunk}
-use Rattle.crn_format.specs.Grid.{Shade, color, alpha, chunkCount, insides, blockAt}
-use Rattle.crn_format.specs.Unpacking.{unpacked, declined, lengthsOf, tablesHold, levelStands, levelSegment, palettesReach, gridOf, gridFits, reach, planesOf, shadesOf, ended, levelReading, drawnLevel, unpacking}
+use Rattle.crn_format.specs.Grid.{Shade, color, alpha, chunkCount, insides, blockAt, painted}
+use Rattle.crn_format.specs.Unpacking.{declined, lengthsOf, tablesHold, levelStands, levelSegment, palettesReach, gridOf, gridFits, reach, planesOf, shadesOf, ended, levelReading, drawnLevel, unpacking}
 use Rattle.crn_format.specs.declared.Header.{Header}
 use Rattle.crn_format.specs.declared.Record.{Record}
 use Rattle.crn_format.specs.declared.Grid.{Grid}
 use Rattle.crn_format.proofs.Budget.{leftOf, left-falls}
-use Rattle.crn_format.proofs.Passing.{passed-drawn, accepted-passed}
 use Rattle.crn_format.proofs.Planes.{planes-long, planes-bytes}
 use Rattle.crn_blocks.specs.Sheet.{In, Room}
 use Rattle.crn_level.specs.Refusals.{firstFailed, refusalBy}
 use Rattle.crn_level.proofs.Checks.{all-checked}
 use Rattle.crn_laws_total.specs.Refusals.{among, beforeDraws, inDraws}
-use Rattle.crn_laws_total.specs.Ends.{Declined, Accepted, LevelEnds}
+use Rattle.crn_laws_total.specs.Leaves.{Leaves}
+use Rattle.crn_laws_total.specs.Ends.{Declined, LevelEnds}
 use Rattle.crn_laws_total.proofs.Numbers.{among-first, among-second, none-in-both}
 use Rattle.crn_laws_total.proofs.Refusing.{Stops, budget-stops}
 use Rattle.crn_laws_total.proofs.LevelReadings.{level-refuses}
 use Rattle.crn_laws_total.proofs.Bytes.{painted-leaves, blank-leaves}
 use Rattle.crn_laws_total.proofs.Sizes.{through, block-sized}
+use Rattle.crn_laws_total.proofs.Counted.{same-count}
 
 -- the refusals of a level's stream
 abbrev ok : ℕ → Bool
@@ -49,12 +50,13 @@ module _ (r : Record) (file : List ℕ) (p : Palettes) (n pitch distance budget 
 
   -- ---- before the first draw
 
-  early : (m : ℕ) → among m beforeDraws ≡ true → Declined (gridOf (r .header) n pitch distance) m dst dst
+  early : (m : ℕ) → among m beforeDraws ≡ true
+      → Declined r (levelSegment file (r .header) n) (gridOf (r .header) n pitch distance) budget m 0 0 dst dst
   early m e =
       record {
         number = among-first m beforeDraws inDraws e;
-        untouched = λ _. refl;
-        wiped = λ f. absurd (none-in-both m beforeDraws inDraws refl e f);
+        untouched = λ _. (refl, (refl, refl));
+        stopped = λ f. absurd (none-in-both m beforeDraws inDraws refl e f);
       }
 
   -- ---- in the stream
@@ -69,6 +71,22 @@ module _ (r : Record) (file : List ℕ) (p : Palettes) (n pitch distance budget 
         shades (planes-long (kindOf (r .header .format)) _ _ _ _) f x y at
         ∙ planes-bytes (kindOf (r .header .format)) (color (p .colorEnds) (p .colorSels)) (alpha (p .alphaEnds) (p .alphaSels))
 
+    left : (cs : List Chunk) (w : Spending)
+        → run (budgeted (fromBits seg)) (levelReading r g) (record { place = start; left = budget }) ≡ got cs w
+        → Leaves g (λ f x y k. getD (blockAt g shades cs f x y) k 0) dst (painted g (blockAt g shades cs) (g .faces) dst)
+    left cs w e =
+        painted-leaves dst room (blockAt g shades cs) (sized cs w e) (λ f x y k. getD (blockAt g shades cs f x y) k 0) (λ f x y k _. refl)
+
+    -- what is drawn is what is not left
+    whole : (y : Step Spending (List Chunk))
+        → run (budgeted (fromBits seg)) (levelReading r g) (record { place = start; left = budget }) ≡ y
+        → leftOf y + (budget - leftOf y) ≡ budget
+    whole y e =
+        let few : leftOf y ≤ budget =
+        subst (λ (x : Step Spending (List Chunk)). leftOf x ≤ budget) e
+        (left-falls (fromBits seg) (levelReading r g) (record { place = start; left = budget })) in
+        omega arith
+
     by-run : (y : Step Spending (List Chunk)) → run (budgeted (fromBits seg)) (levelReading r g) (record { place = start; left = budget }) ≡ y → Stops ok y
         → LevelEnds r file p n pitch distance budget dst (ended (kindOf (r .header .format)) g shades budget dst y)
     unfolding ended
@@ -78,13 +96,15 @@ module _ (r : Record) (file : List ℕ) (p : Palettes) (n pitch distance budget 
           left = w;
           read = e;
           sized = sized cs w e;
-          leaves = painted-leaves dst room (blockAt g shades cs) (sized cs w e) (λ f x y k. getD (blockAt g shades cs f x y) k 0) (λ f x y k _. refl);
+          leaves = left cs w e;
+          drawn = whole (got cs w) e;
+          counted = sym (same-count (blockAt g shades cs) (left cs w e) (sized cs w e) (kindOf (r .header .format)));
         }
     by-run (refused m w) e stops =
         record {
           number = among-second m beforeDraws inDraws stops;
           untouched = λ f. absurd (none-in-both m beforeDraws inDraws refl f stops);
-          wiped = λ _. blank-leaves dst room;
+          stopped = λ _. record { last = w; read = e; drawn = whole (refused m w) e; named = refl; wiped = blank-leaves dst room };
         }
 
     drawn-ends : LevelEnds r file p n pitch distance budget dst (drawnLevel r seg p g budget dst)
@@ -97,7 +117,7 @@ module _ (r : Record) (file : List ℕ) (p : Palettes) (n pitch distance budget 
   -- ---- the checks
 
   -- where each test holds, the grid has room
-  has-room : withinLimits h ≡ true → tablesHold (r .tables) ≡ true → ltb n (h .levels) ≡ true → levelStands file h n ≡ true → palettesReach h p ≡ true
+  pub has-room : withinLimits h ≡ true → tablesHold (r .tables) ≡ true → ltb n (h .levels) ≡ true → levelStands file h n ≡ true → palettesReach h p ≡ true
       → gridFits g ≡ true → leb (reach g) (length dst) ≡ true → Room (gridOf (r .header) n pitch distance) (length dst)
   has-room e₁ e₂ e₃ e₄ e₅ e₆ e₇ = all-checked r file p n pitch distance (length dst) refl none refl {seg = []} (omega arith) refl .room
     where
@@ -132,14 +152,3 @@ module _ (r : Record) (file : List ℕ) (p : Palettes) (n pitch distance budget 
       by true true true true true false k e₁ e₂ e₃ e₄ e₅ e₆ e₇ = early 11 refl
       by true true true true true true false e₁ e₂ e₃ e₄ e₅ e₆ e₇ = early 12 refl
       by true true true true true true true e₁ e₂ e₃ e₄ e₅ e₆ e₇ = drawn-ends (has-room e₁ e₂ e₃ e₄ e₅ e₆ e₇)
-
-  -- what an accepted level's symbols leave of the budget
-  pub accepted-left : {s c : ℕ} {e : List ℕ} → unpacking r file p n pitch distance budget dst ≡ unpacked s c e → (l : Accepted r seg p g budget dst e)
-      → l .left .left ≡ budget - s
-  unfolding drawnLevel ended
-  accepted-left {s} is l =
-      let drawn = sym (passed-drawn r file p n pitch distance budget dst (accepted-passed r file p n pitch distance budget dst is)) ∙ is in
-      let few : l .left .left ≤ budget =
-      subst (λ (y : Step Spending (List Chunk)). leftOf y ≤ budget) (l .read) (left-falls (fromBits seg) (levelReading r g) (record { place = start; left = budget })) in
-      let symbols : budget - l .left .left ≡ s = cc (rw (l .read) at drawn) in
-      omega arith

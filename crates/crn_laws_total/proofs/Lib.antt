@@ -6,6 +6,7 @@ pub mod Words
 pub mod Opening
 pub mod Bytes
 pub mod Sizes
+pub mod Counted
 pub mod Level
+pub mod Close
 pub mod Several
-pub mod Calls

@@ -44,17 +44,17 @@ filled-beyond n ws b e h =
 -- ---- a refusal
 
 module _ (lent : Palettes) (n : ℕ) where
-  early : among n beforeStreams ≡ true → Shut lent lent n
+  early : among n beforeStreams ≡ true → Shut lent lent n 0
   early e =
       record {
         number = among-first n beforeStreams inStreams e;
-        untouched = λ _. refl;
+        untouched = λ _. (refl, refl);
         zeroed = λ f. absurd (none-in-both n beforeStreams inStreams refl e f);
       }
 
-  late : among n inStreams ≡ true → Shut lent (zeroed lent) n
+  late : (bit : ℕ) → among n inStreams ≡ true → Shut lent (zeroed lent) n bit
   unfolding zeroed
-  late e =
+  late bit e =
       record {
         number = among-second n beforeStreams inStreams e;
         untouched = λ f. absurd (none-in-both n beforeStreams inStreams refl f e);
@@ -77,7 +77,7 @@ module _ (lent : Palettes) where
       → OpeningEnds lent (onward lent s k)
   unfolding onward
   on (got a w) k h g = g a w refl
-  on (refused n w) k h g = late lent n h
+  on (refused n w) k h g = late lent n _ h
 
   -- a palette of n words for its buffer: what is then left of the buffer
   palette : (file : List ℕ) (there : Bool) (p : Part) (reading : ℕ → Reading (List ℕ)) (n : ℕ) (b : List ℕ) (k : List ℕ → Opening)

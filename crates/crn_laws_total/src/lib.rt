@@ -1,1 +1,1 @@
-// No functions: specs/ says what every call of `open`, `unpack_level` and `unpack_levels` ends with, and proofs/ that it does.
+// No functions: specs/ says how opening, a level and several levels end, whatever they are given, and proofs/ that they do.

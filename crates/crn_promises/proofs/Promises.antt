@@ -1,0 +1,167 @@
+-- The three promises, as theorems over the own contracts of the functions that people call. `Says X.Post (λ a r e. CLAIM ..)` is read:
+-- whatever X is given (a), where it answers r and leaves e as its contract allows, CLAIM holds. The claims are in specs/Promises.antt;
+-- what a call is, in specs/Calls.antt. Each theorem is proved by the law of its file: Look, Opening, Level, Levels, Ready, Told,
+-- ToldAll.
+--
+-- `open`, `unpack_level` and `unpack_levels` are what `crunch` hands out; `open_into` and `unpack_level_by` are the same with the record
+-- by its parts; those named `crunch_..` are what C and Rust call.
+use mathlib.Core.Path.{_≡_, refl}
+use denote.Ref.{now}
+use Rattle.crunch.proofs.«open».Reads as open-call
+use Rattle.crn_opening.proofs.open_into.Reads as open-into
+use Rattle.crn_level.proofs.unpack_level.Reads as unpack-level
+use Rattle.crn_level.proofs.unpack_level_by.Reads as unpack-level-by
+use Rattle.crn_levels.proofs.unpack_levels.Reads as unpack-levels
+use Rattle.crunch_abi.proofs.crunch_look.Reads as crunch-look
+use Rattle.crunch_abi.proofs.crunch_open_parts.Reads as crunch-open-parts
+use Rattle.crunch_abi.proofs.crunch_palette_words.Reads as crunch-palette-words
+use Rattle.crunch_abi.proofs.crunch_level_sizes.Reads as crunch-level-sizes
+use Rattle.crunch_abi.proofs.crunch_unpack_level_parts.Reads as crunch-unpack-level-parts
+use Rattle.crunch_abi.proofs.crunch_unpack_levels_parts.Reads as crunch-unpack-levels-parts
+use Rattle.crn_sizes.specs.Sizes.{levelSizes}
+use Rattle.crunch_abi.specs.Sizes.{paletteWords}
+use Rattle.crn_promises.specs.Calls.{Says, openCall, openPartsCall, levelCall, levelByCall, levelPartsCall, levelsCall}
+use Rattle.crn_promises.specs.Promises.{LookTotal, OpenTotal, LevelTotal, LevelsTotal, OpenSame, LevelSame, LevelsSame, LevelExact, LevelsExact, OpenReady, LevelReady, LevelsReady, OpenTold, LevelTold, LevelsTold}
+use Rattle.crn_promises.proofs.Look as look
+use Rattle.crn_promises.proofs.Opening as opening
+use Rattle.crn_promises.proofs.Level as level
+use Rattle.crn_promises.proofs.Levels as levels
+use Rattle.crn_promises.proofs.Ready as ready
+use Rattle.crn_promises.proofs.Told as told
+use Rattle.crn_promises.proofs.ToldAll as told-all
+
+-- ---- 1. TOTAL. "A file may hold anything, and every argument may be wrong. Each call ends, checks its own arguments, and answers with
+-- blocks or with a numbered refusal. A level refused before its first draw leaves the destination untouched; one refused later leaves
+-- every block of the grid zero and all else as before." None of these functions has a `requires`, so their contracts speak of every
+-- call.
+
+pub crunch-look-total : Says crunch-look.Post (λ (file, _) r e. LookTotal (now file) r)
+crunch-look-total κ (file, _) r e p = look.look-total (now file) r p
+
+pub open-total : Says open-call.Post (λ a r e. OpenTotal (openCall a r e))
+open-total κ a r e p = opening.open-total (openCall a r e) p
+
+pub open-into-total : Says open-into.Post (λ a r e. OpenTotal (openPartsCall a r e))
+open-into-total κ a r e p = opening.open-total (openPartsCall a r e) p
+
+pub crunch-open-parts-total : Says crunch-open-parts.Post (λ a r e. OpenTotal (openPartsCall a r e))
+crunch-open-parts-total κ a r e p = opening.open-total (openPartsCall a r e) p
+
+pub unpack-level-total : Says unpack-level.Post (λ a r e. LevelTotal (levelCall a r e))
+unpack-level-total κ a r e p = level.level-total (levelCall a r e) (level.level-same (levelCall a r e) r refl p)
+
+pub unpack-level-by-total : Says unpack-level-by.Post (λ a r e. LevelTotal (levelByCall a r e))
+unpack-level-by-total κ a r e p = level.level-total (levelByCall a r e) (level.level-same (levelByCall a r e) r refl p)
+
+pub crunch-unpack-level-parts-total : Says crunch-unpack-level-parts.Post (λ a r e. LevelTotal (levelPartsCall a r e))
+crunch-unpack-level-parts-total κ a r e p = level.level-total (levelPartsCall a r e) (level.level-same (levelPartsCall a r e) (p .told) (p .same) (p .unpacks))
+
+pub unpack-levels-total : Says unpack-levels.Post (λ a r e. LevelsTotal (levelsCall a r e))
+unpack-levels-total κ a r e p = levels.levels-total (levelsCall a r e) p
+
+pub crunch-unpack-levels-parts-total : Says crunch-unpack-levels-parts.Post (λ a r e. LevelsTotal (levelsCall a r e))
+crunch-unpack-levels-parts-total κ a r e p = levels.levels-total (levelsCall a r e) p
+
+-- ---- 2. THE SAME. "Each accepted file gives the same palettes and, for one face, the same block bytes as the Rust. What we prove
+-- against is written from the published crn_decomp.h." The answer and all that is left are the definitions' (crn_format), for accepted
+-- and refused calls alike; that the definitions give the Rust's bytes is shown by stored cases (docs/CASES.md).
+
+pub open-same : Says open-call.Post (λ a r e. OpenSame (openCall a r e))
+open-same κ a r e p = p
+
+pub open-into-same : Says open-into.Post (λ a r e. OpenSame (openPartsCall a r e))
+open-into-same κ a r e p = p
+
+pub crunch-open-parts-same : Says crunch-open-parts.Post (λ a r e. OpenSame (openPartsCall a r e))
+crunch-open-parts-same κ a r e p = p
+
+pub unpack-level-same : Says unpack-level.Post (λ a r e. LevelSame (levelCall a r e))
+unpack-level-same κ a r e p = level.level-same (levelCall a r e) r refl p
+
+pub unpack-level-by-same : Says unpack-level-by.Post (λ a r e. LevelSame (levelByCall a r e))
+unpack-level-by-same κ a r e p = level.level-same (levelByCall a r e) r refl p
+
+pub crunch-unpack-level-parts-same : Says crunch-unpack-level-parts.Post (λ a r e. LevelSame (levelPartsCall a r e))
+crunch-unpack-level-parts-same κ a r e p = level.level-same (levelPartsCall a r e) (p .told) (p .same) (p .unpacks)
+
+pub unpack-levels-same : Says unpack-levels.Post (λ a r e. LevelsSame (levelsCall a r e))
+unpack-levels-same κ a r e p = p
+
+pub crunch-unpack-levels-parts-same : Says crunch-unpack-levels-parts.Post (λ a r e. LevelsSame (levelsCall a r e))
+crunch-unpack-levels-parts-same κ a r e p = p
+
+-- ---- 3. EXACT. "With a budget of eight symbols for each chunk and plane plus one for each started group of three chunks, a level is
+-- accepted exactly when a script for it exists; the script is the only one, and every block of every face is given by its position and
+-- the script."
+
+pub unpack-level-exact : Says unpack-level.Post (λ a r e. LevelExact (levelCall a r e))
+unpack-level-exact κ a r e p = level.level-exact (levelCall a r e) (level.level-same (levelCall a r e) r refl p)
+
+pub unpack-level-by-exact : Says unpack-level-by.Post (λ a r e. LevelExact (levelByCall a r e))
+unpack-level-by-exact κ a r e p = level.level-exact (levelByCall a r e) (level.level-same (levelByCall a r e) r refl p)
+
+pub crunch-unpack-level-parts-exact : Says crunch-unpack-level-parts.Post (λ a r e. LevelExact (levelPartsCall a r e))
+crunch-unpack-level-parts-exact κ a r e p = level.level-exact (levelPartsCall a r e) (level.level-same (levelPartsCall a r e) (p .told) (p .same) (p .unpacks))
+
+pub unpack-levels-exact : Says unpack-levels.Post (λ a r e. LevelsExact (levelsCall a r e))
+unpack-levels-exact κ a r e p = levels.levels-exact (levelsCall a r e) p
+
+pub crunch-unpack-levels-parts-exact : Says crunch-unpack-levels-parts.Post (λ a r e. LevelsExact (levelsCall a r e))
+crunch-unpack-levels-parts-exact κ a r e p = levels.levels-exact (levelsCall a r e) p
+
+-- ---- FOR HOSTS. An accepted opening is ready for its levels: none is refused by 2, 5 or 6. With the sizes that a host is told only 0,
+-- 4, 7, 8, 13 and 14 can come of a level, and 5 of no opening.
+
+pub open-ready : Says open-call.Post (λ a r e. OpenReady (openCall a r e))
+open-ready κ a r e p = opening.open-ready (openCall a r e) p
+
+pub open-into-ready : Says open-into.Post (λ a r e. OpenReady (openPartsCall a r e))
+open-into-ready κ a r e p = opening.open-ready (openPartsCall a r e) p
+
+pub crunch-open-parts-ready : Says crunch-open-parts.Post (λ a r e. OpenReady (openPartsCall a r e))
+crunch-open-parts-ready κ a r e p = opening.open-ready (openPartsCall a r e) p
+
+pub unpack-level-ready : Says unpack-level.Post (λ a r e. LevelReady (levelCall a r e))
+unpack-level-ready κ a r e p = ready.level-ready (levelCall a r e) (level.level-same (levelCall a r e) r refl p)
+
+pub unpack-level-by-ready : Says unpack-level-by.Post (λ a r e. LevelReady (levelByCall a r e))
+unpack-level-by-ready κ a r e p = ready.level-ready (levelByCall a r e) (level.level-same (levelByCall a r e) r refl p)
+
+pub crunch-unpack-level-parts-ready : Says crunch-unpack-level-parts.Post (λ a r e. LevelReady (levelPartsCall a r e))
+crunch-unpack-level-parts-ready κ a r e p = ready.level-ready (levelPartsCall a r e) (level.level-same (levelPartsCall a r e) (p .told) (p .same) (p .unpacks))
+
+pub unpack-levels-ready : Says unpack-levels.Post (λ a r e. LevelsReady (levelsCall a r e))
+unpack-levels-ready κ a r e p = ready.levels-ready (levelsCall a r e) p
+
+pub crunch-unpack-levels-parts-ready : Says crunch-unpack-levels-parts.Post (λ a r e. LevelsReady (levelsCall a r e))
+crunch-unpack-levels-parts-ready κ a r e p = ready.levels-ready (levelsCall a r e) p
+
+pub crunch-palette-words-so : Says crunch-palette-words.Post (λ (header, _) r e. r ≡ paletteWords header)
+crunch-palette-words-so κ a r e p = p
+
+pub crunch-level-sizes-so : Says crunch-level-sizes.Post (λ (header, (level, _)) r e. r ≡ levelSizes header level)
+crunch-level-sizes-so κ a r e p = p
+
+pub open-told : Says open-call.Post (λ a r e. OpenTold (openCall a r e))
+open-told κ a r e p = opening.open-told (openCall a r e) p
+
+pub open-into-told : Says open-into.Post (λ a r e. OpenTold (openPartsCall a r e))
+open-into-told κ a r e p = opening.open-told (openPartsCall a r e) p
+
+pub crunch-open-parts-told : Says crunch-open-parts.Post (λ a r e. OpenTold (openPartsCall a r e))
+crunch-open-parts-told κ a r e p = opening.open-told (openPartsCall a r e) p
+
+pub unpack-level-told : Says unpack-level.Post (λ a r e. LevelTold (levelCall a r e))
+unpack-level-told κ a r e p = told.level-told (levelCall a r e) (level.level-same (levelCall a r e) r refl p)
+
+pub unpack-level-by-told : Says unpack-level-by.Post (λ a r e. LevelTold (levelByCall a r e))
+unpack-level-by-told κ a r e p = told.level-told (levelByCall a r e) (level.level-same (levelByCall a r e) r refl p)
+
+pub crunch-unpack-level-parts-told : Says crunch-unpack-level-parts.Post (λ a r e. LevelTold (levelPartsCall a r e))
+crunch-unpack-level-parts-told κ a r e p = told.level-told (levelPartsCall a r e) (level.level-same (levelPartsCall a r e) (p .told) (p .same) (p .unpacks))
+
+pub unpack-levels-told : Says unpack-levels.Post (λ a r e. LevelsTold (levelsCall a r e))
+unpack-levels-told κ a r e p = told-all.levels-told (levelsCall a r e) p
+
+pub crunch-unpack-levels-parts-told : Says crunch-unpack-levels-parts.Post (λ a r e. LevelsTold (levelsCall a r e))
+crunch-unpack-levels-parts-told κ a r e p = told-all.levels-told (levelsCall a r e) p

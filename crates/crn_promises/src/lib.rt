@@ -1,0 +1,1 @@
+// No functions: the three promises, as theorems over the own contracts of the entry functions. Begin at proofs/Promises.antt.
