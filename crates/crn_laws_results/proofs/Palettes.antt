@@ -4,23 +4,25 @@ use mathlib.Core.Path.{_≡_, refl, sym, ap, _∙_}
 use mathlib.Core.List.{List}
 use native.Mathlib.Omega.{arith}
 use lib.ListN.{length, getD}
-use lib.Seq.{ext-getD}
+use lib.Seq.{ext-getD, length-take-le}
 use denote.Ref.{now}
 use Rattle.crn_consts.specs.declared.Deltas.{Deltas}
 use Rattle.crn_consts.specs.AlphaDeltas.{AllDeltas, alphaDeltas}
 use Rattle.crn_consts.proofs.alpha_delta_pairs.Reads as alpha-delta-pairs
-use Rattle.crn_format.specs.Reading.{Place}
-use Rattle.crn_palettes.specs.Reaching.{reached, reachedBy}
+use Rattle.crn_format.specs.Reading.{Step, got, refused}
+use Rattle.crn_symbol_codec.specs.declared.Cursor.{Cursor}
+use Rattle.crn_palettes.specs.Reaching.{heldIn, Lengths}
 use Rattle.crn_palettes.specs.declared.Ended.{Ended}
-use Rattle.crn_palettes.specs.declared.reading.Reached.{Reached}
-use Rattle.crn_palettes.specs.declared.reading.Reached.the-variants.{To, Refused}
+use Rattle.crn_palettes.specs.declared.reading.Sent.{Sent}
+use Rattle.crn_palettes.specs.declared.reading.Sent.the-variants.{Table, Refused}
 use Rattle.crn_palettes.proofs.receive_lengths.Reads as receive-lengths
+use Rattle.crn_palettes.proofs.few.Reads as few
 use Rattle.crn_endpoints.proofs.color_endpoints.Reads as color-endpoints
 use Rattle.crn_selectors.proofs.color_selectors.Reads as color-selectors
 use Rattle.crn_endpoints.proofs.alpha_endpoints.Reads as alpha-endpoints
 use Rattle.crn_selectors.proofs.alpha_selectors.Reads as alpha-selectors
 use Rattle.crn_laws_results.specs.Settled.{Settled, SettledIf, theAnswer, alike, alike₂}
-use Rattle.crn_laws_results.specs.Seen.{reachedSeen}
+use Rattle.crn_laws_results.specs.Seen.{sentSeen}
 use Rattle.crn_laws_results.proofs.Steps.{got-tells, refused-tells, got-or-refused}
 
 pub color-endpoints-settled : Settled {X = Ended × List ℕ} color-endpoints.Post (λ a r (seg, (count, (out, _))). (r, now out))
@@ -35,16 +37,31 @@ alpha-endpoints-settled _ _ _ _ _ _ _ p q = alike₂ (p .answer) (q .answer) (p 
 pub alpha-selectors-settled : Settled {X = Ended × List ℕ} alpha-selectors.Post (λ a r (seg, (count, (out, _))). (r, now out))
 alpha-selectors-settled _ _ _ _ _ _ _ p q = alike₂ (p .answer) (q .answer) (p .holds) (q .holds)
 
--- ---- a palette's code table: how receiving it ends
+-- ---- a palette's code table: how receiving it ends, and all of the lent array
 
-reached-tells : (us vs : List ℕ) (a b : ℕ) (r s : Reached) → reached us a r ≡ reached vs b s → reachedSeen r ≡ reachedSeen s
-reached-tells us vs a b (To d) (To e) f = ap (λ (w : Place). (0, w .at)) (got-tells f .1)
-reached-tells us vs a b (To d) (Refused n p) f = absurd (got-or-refused f)
-reached-tells us vs a b (Refused n p) (To d) f = absurd (got-or-refused (sym f))
-reached-tells us vs a b (Refused n p) (Refused m q) f = let both = refused-tells f in λ i. (both .0 i, both .1 i .at)
+-- the count is that of the lengths
+counted : {seg : List ℕ} {c d : Cursor} {n : ℕ} {lent : List ℕ} (p : Lengths seg c lent (Table n d)) → n ≡ length (p .lengths)
+counted {n = n} {lent = lent} p = sym (length-take-le n lent (p .codes .within)) ∙ ap length (p .same)
 
-pub receive-lengths-settled : Settled receive-lengths.Post (λ a r e. reachedSeen (reachedBy r))
-receive-lengths-settled _ _ _ r s _ _ p q = reached-tells _ _ _ _ (reachedBy r) (reachedBy s) (sym (p .reads 0 .same) ∙ q .reads 0 .same)
+sent-tells : {seg : List ℕ} {c : Cursor} {d e : List ℕ} (r s : Sent) → Lengths seg c d r → Lengths seg c e s
+    → _≡_ {A = Step ℕ ℕ × List ℕ} (sentSeen r, d) (sentSeen s, e)
+sent-tells {d = d} {e = e} (Table n x) (Table m y) p q =
+    let both = got-tells (sym (p .reads 0 .same) ∙ q .reads 0 .same) in
+    let count : n ≡ m = counted p ∙ ap length (both .0) ∙ sym (counted q) in
+    let lent : d ≡ e = p .held ∙ ap (heldIn (Table n x)) (both .0) ∙ sym (q .held) in
+    λ i. (got (count i) (both .1 i .at), lent i)
+sent-tells (Table n x) (Refused m y) p q = absurd (got-or-refused (sym (p .reads 0 .same) ∙ q .reads 0 .same))
+sent-tells (Refused n x) (Table m y) p q = absurd (got-or-refused (sym (q .reads 0 .same) ∙ p .reads 0 .same))
+sent-tells (Refused n x) (Refused m y) p q =
+    let both = refused-tells (sym (p .reads 0 .same) ∙ q .reads 0 .same) in
+    λ i. (refused (both .0 i) (both .1 i .at), alike (p .held) (q .held) i)
+
+pub receive-lengths-settled : Settled {X = Step ℕ ℕ × List ℕ} receive-lengths.Post
+    (λ a r (seg, (c, (lengths, _))). (sentSeen r, now lengths))
+receive-lengths-settled _ _ _ r s _ _ p q = sent-tells r s p q
+
+pub few-settled : Settled few.Post theAnswer
+few-settled _ _ _ _ _ _ _ p q = alike p q
 
 -- ---- the table of pairs, which has 450 bytes as its type says
 

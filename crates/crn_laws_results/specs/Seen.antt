@@ -3,7 +3,7 @@
 use Prim.Native.Nat.{ℕ}
 use mathlib.Core.Bool.{Bool}
 use mathlib.Core.List.{List}
-use Rattle.crn_format.specs.Reading.{Step, got, Spending}
+use Rattle.crn_format.specs.Reading.{Step, got, refused, Spending}
 use Rattle.crn_format.specs.Level.{Running}
 use Rattle.crn_format.specs.Grid.{painted, blank}
 use Rattle.crn_format.specs.declared.Table.{Table}
@@ -11,8 +11,8 @@ use Rattle.crn_format.specs.declared.Grid.{Grid}
 use Rattle.crn_symbol_codec.specs.Cursors.{place}
 use Rattle.crn_code_tables.specs.Receiving.{heldBy}
 use Rattle.crn_code_tables.specs.declared.Received.{Received}
-use Rattle.crn_palettes.specs.declared.reading.Reached.{Reached}
-use Rattle.crn_palettes.specs.declared.reading.Reached.the-variants.{To, Refused}
+use Rattle.crn_palettes.specs.declared.reading.Sent.{Sent}
+use Rattle.crn_palettes.specs.declared.reading.Sent.the-variants.{Table as Sends, Refused}
 use Rattle.crn_chunks.specs.Meaning.{spending, stopped, runningOf}
 use Rattle.crn_unpacker.specs.declared.Went.{Went}
 use Rattle.crn_unpacker.specs.declared.Went.the-variants.{On, Stopped}
@@ -27,10 +27,10 @@ pub record ReceivedSeen : Type 0 where
 abbrev pub receivedSeen : Received → List ℕ → ReceivedSeen
 receivedSeen r lengths = record { refusal = r .refusal; at = r .at; table = heldBy r lengths; place = place (r .cursor) }
 
--- of a palette's code table that was received: 0 and the place after it; or the refusal and the bit that it names
-abbrev pub reachedSeen : Reached → ℕ × ℕ
-reachedSeen (To d) = (0, place d)
-reachedSeen (Refused n p) = (n, p)
+-- of a palette's code table that was received: how many symbols it has, and the place after it; or the refusal and the bit that it names
+abbrev pub sentSeen : Sent → Step ℕ ℕ
+sentSeen (Sends n d) = got n (place d)
+sentSeen (Refused n p) = refused n p
 
 -- of a level's chunks: what is carried on from the last, with the place after it and the budget that is left; or the refusal
 abbrev pub went : Bool → Went → Step Spending Running

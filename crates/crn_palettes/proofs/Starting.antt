@@ -1,8 +1,12 @@
 -- From a palette's first bit to its entries: its tables are received, and what is left to be run ends as the palette does.
-use Prim.Native.Nat.{ℕ}
+use Prim.Native.Nat.{ℕ, _≤_}
+use mathlib.Core.Bool.{Bool, true, false, _&&_}
 use mathlib.Core.List.{List}
-use mathlib.Core.Path.{_≡_, refl, sym, ap, subst}
+use mathlib.Core.Path.{_≡_, refl, sym, ap, subst, _∙_}
+use native.Mathlib.Omega.{arith}
 use lib.ListN.{take}
+use lib.Dec.{leb, ltb}
+use borrow.Author.Tests.{leb-true}
 use Rattle.crn_format.specs.Reading.{Reading, next, Step, refused, Place, spot, start, run, fromBits}
 use Rattle.crn_format.specs.Tables.{table}
 use Rattle.crn_format.specs.Opening.{zeros}
@@ -10,7 +14,7 @@ use Rattle.crn_symbol_codec.specs.Cursors.{place, Holds}
 use Rattle.crn_symbol_codec.specs.Decoders.{Decodes, SomeCode}
 use Rattle.crn_symbol_codec.specs.declared.Cursor.{Cursor}
 use Rattle.crn_palettes.specs.Filling.{Fills, FillsFrom}
-use Rattle.crn_palettes.specs.Reaching.{Reaches, Codes, reachedBy, Counted, Lengths, Received}
+use Rattle.crn_palettes.specs.Reaching.{Reaches, Codes, fewOf, reachedBy, Counted, Lengths, Received}
 use Rattle.crn_palettes.specs.declared.Ended.{Ended}
 use Rattle.crn_palettes.specs.declared.reading.Reached.{Reached}
 use Rattle.crn_palettes.specs.declared.reading.Reached.the-variants.{To, Refused}
@@ -69,3 +73,16 @@ module _ {seg : List ℕ} {c : Cursor} {lookup sorted : List ℕ} {r : Reached} 
   pub received-none : (k : List ℕ → Reading (List ℕ)) {m : Reading (List ℕ)} {before after : List ℕ} {n p : ℕ} → Left seg (next table k) c (run (fromBits seg) m start) → r ≡ Refused n p → after ≡ zeros before
       → Fills seg m before after (record { refusal = n; at = p })
   received-none k {before = before} l e z = fills-none before (left-stop k l (x .reads) e) refl z
+
+-- ---- where small arrays do, they have room for either table
+
+both-hold : (a b c : Bool) → (a && b) && c ≡ true → (a ≡ true) × (b ≡ true)
+both-hold true true c e = (refl, refl)
+both-hold true false c e = (refl, e)
+both-hold false b c e = let z : _≡_ {A = ℕ} 0 1 = cc in absurd (omega arith)
+
+pub few-fit : {r : Bool} (symbols others entries : ℕ) → r ≡ fewOf symbols others entries → r ≡ true → (symbols ≤ 256) × (others ≤ 256)
+unfolding fewOf
+few-fit symbols others entries e t =
+    let both = both-hold (leb symbols 256) (leb others 256) (ltb entries 1000) (sym e ∙ t) in
+    (leb-true symbols 256 (both .0), leb-true others 256 (both .1))

@@ -1,9 +1,10 @@
 -- What a part of a palette answers: the cursor after it, or the refusal and the bit that it names.
-use Prim.Native.Nat.{ℕ, zero, suc, _≤_}
+use Prim.Native.Nat.{ℕ, zero, suc, _-_, _≤_}
 use mathlib.Core.Path.{_≡_}
-use mathlib.Core.Bool.{true}
-use mathlib.Core.List.{List}
-use lib.ListN.{length, take}
+use mathlib.Core.Bool.{Bool, true, _&&_}
+use mathlib.Core.List.{List, _++_}
+use lib.ListN.{length, take, replicate}
+use lib.Dec.{leb, ltb}
 use Rattle.crn_format.specs.Limits.{maxSymbols}
 use Rattle.crn_format.specs.Codes.{allFit}
 use Rattle.crn_format.specs.Reading.{Reading, Step, got, refused, Place, spot, run, fromBits}
@@ -48,6 +49,10 @@ pub record Codes (lent : List ℕ) (n : ℕ) : Type 0 where
   pub short : allFit (take n lent) (length (take n lent)) ≡ true
   pub few : length (take n lent) ≤ maxSymbols
 
+-- small arrays do: neither table has more than 256 symbols, and there are fewer than 1,000 entries
+unfoldable pub fewOf : ℕ → ℕ → ℕ → Bool
+fewOf symbols others entries = (leb symbols 256 && leb others 256) && ltb entries 1000
+
 -- a table's answer, without the count
 abbrev pub reachedBy : Sent → Reached
 reachedBy (Table n d) = To d
@@ -58,12 +63,18 @@ abbrev pub Counted : (ℕ → Type 0) → Sent → Type 0
 Counted holds (Table n d) = holds n
 Counted holds (Declined n p) = Unit {0}
 
+-- what the lent array then holds: the lengths and zeros behind them; all zeros after a refusal
+abbrev pub heldIn : Sent → List ℕ → List ℕ
+heldIn (Table n d) ls = ls ++ replicate (maxSymbols - length ls) 0
+heldIn (Declined n p) ls = replicate maxSymbols 0
+
 -- a table is received at the cursor c into `lent`
 pub record Lengths (seg : List ℕ) (c : Cursor) (lent : List ℕ) (r : Sent) : Type 0 where
   pub lengths : List ℕ
   pub reads : (b : ℕ) → Reaches seg table c b lengths (reachedBy r)
   pub codes : Counted (Codes lent) r
   pub same : Counted (λ n. take n lent ≡ lengths) r
+  pub held : lent ≡ heldIn r lengths
 
 -- a table is received at the cursor c, and `lookup` and `sorted` decode it
 pub record Received (seg : List ℕ) (c : Cursor) (lookup sorted : List ℕ) (r : Reached) : Type 0 where

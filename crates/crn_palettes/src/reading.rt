@@ -1,12 +1,11 @@
 // The parts that every palette is read by: its code tables, and a running value.
 ghost use mathlib.Core.Path.{_≡_};
-ghost use mathlib.Core.Bool.{true};
 ghost use Prim.Native.Nat.{_+_, _^_, _<_, _≤_};
 ghost use lib.ListN.{length, take, replicate};
 ghost use Rattle.crn_format.specs.Limits.{tooLong, maxSymbols};
 ghost use Rattle.crn_symbol_codec.specs.Cursors.{Holds};
 ghost use Rattle.crn_symbol_codec.specs.Decoders.{Decodes};
-ghost use Rattle.crn_palettes.specs.Reaching.{Codes, Lengths};
+ghost use Rattle.crn_palettes.specs.Reaching.{Codes, fewOf, Lengths};
 use crn_code_tables::receive;
 use crn_static_huffman_data_model::build;
 use crn_symbol_codec::Cursor;
@@ -30,7 +29,7 @@ pub fn wide(x: u8) -> u32
     x as u32
 }
 
-// A code table is received into lengths that are all zero.
+// A code table is received into lengths that are all zero; those behind it stay so, and all of them where it is refused.
 pub fn receive_lengths(seg: &[u8], c: Cursor, lengths: &mut [u8; 8192]) -> Sent
     requires { ⌜ Holds (now seg) c ⌝ ∗ ⌜ length (now seg) < tooLong ⌝ ∗ ⌜ now lengths ≡ replicate maxSymbols 0 ⌝ }
     ensures { λ r. ⌜ Lengths (now (seg .entry)) c (now (lengths .exit)) r ⌝ }
@@ -61,7 +60,7 @@ pub fn build_decoder(
 
 // Whether small arrays do for a palette of so many entries, read by two tables of so many symbols: room for 256, and for 9 first bits to look up.
 pub fn few(symbols: usize, others: usize, entries: usize) -> bool
-    ensures { λ r. ⌜ (r ≡ true → (symbols ≤ 256) × (others ≤ 256)) ⌝ }
+    ensures { λ r. ⌜ r ≡ fewOf symbols others entries ⌝ }
 {
     if 256 < symbols {
         return false;

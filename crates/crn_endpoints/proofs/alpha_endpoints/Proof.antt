@@ -5,7 +5,7 @@ use mathlib.Core.List.{[]}
 use native.Mathlib.Omega.{arith}
 use lib.ListN.{length-replicate}
 use Rattle.crn_format.specs.Palettes.{alphaEndpoints}
-use Rattle.crn_palettes.proofs.Starting.{all-left, fills-left, table-codes, table-decoder, no-table, received-holds, received-code, received-some, received-left, received-none}
+use Rattle.crn_palettes.proofs.Starting.{all-left, fills-left, table-codes, table-decoder, no-table, received-holds, received-code, received-some, received-left, received-none, few-fit}
 use borrow.Author.Needs.{needs}
 use Rattle.crn_endpoints.proofs.alpha_endpoints.Statement.{statement}
 use Rattle.crn_endpoints.proofs.alpha_endpoints.Tie as tie
@@ -32,7 +32,7 @@ slice-aggregate-build-decoder-3 : tie.Need-slice-aggregate-build-decoder-3
 slice-aggregate-build-decoder-3 c = search needs
 
 build-decoder-requires : tie.Need-build-decoder-requires
-build-decoder-requires c κs = (table-codes (c .before .before .before .before .before .before .before .before .receive-lengths .ensures) (c .before .before .before .before .before .before .n .given .1), (search needs, search needs, search needs, omega (arith, c .before .before .before .before .few .ensures (c .before .before .before .if1 .taken) .0, length-replicate {A = ℕ} 256 0)))
+build-decoder-requires c κs = (table-codes (c .before .before .before .before .before .before .before .before .receive-lengths .ensures) (c .before .before .before .before .before .before .n .given .1), (search needs, search needs, search needs, omega (arith, few-fit _ _ _ (c .before .before .before .before .few .ensures) (c .before .before .before .if1 .taken) .0, length-replicate {A = ℕ} 256 0)))
 
 slice-aggregate-alpha-words : tie.Need-slice-aggregate-alpha-words
 slice-aggregate-alpha-words c = search needs

@@ -5,6 +5,7 @@ use mathlib.Core.Path.{_≡_, refl, sym, ap, _∙_}
 use borrow.Author.Needs.{needs}
 use Rattle.crn_format.specs.Reading.{got, spot, fromBits}
 use Rattle.crn_format.specs.Unpacking.{lengthsOf}
+use Rattle.crn_format.specs.declared.Table.{Table as Kept}
 use Rattle.crn_symbol_codec.specs.Cursors.{place}
 use Rattle.crn_symbol_codec.specs.declared.Cursor.{Cursor}
 use Rattle.crn_code_tables.specs.Receiving.{heldBy, Receives}
@@ -19,7 +20,13 @@ use Rattle.crn_palettes.proofs.reading.receive_lengths.Tie as tie
 module _ {seg : List ℕ} {c : Cursor} {x : Received} {ls : List ℕ} (r : Receives seg c x ls) where
   no-lengths : (x .refusal ≡ 0 → ⊥) → Lengths seg c ls (Refused (x .refusal) (x .at))
   no-lengths k =
-      record { lengths = []; reads = λ b. record { blamed = 0; same = r .same b ∙ said-refused _ _ _ _ k; holds = tt }; codes = tt; same = tt }
+      record {
+        lengths = [];
+        reads = λ b. record { blamed = 0; same = r .same b ∙ said-refused _ _ _ _ k; holds = tt };
+        codes = tt;
+        same = tt;
+        held = ap (λ (t : Kept). t .lengths) (r .stays k .0);
+      }
 
   sent : x .refusal ≡ 0 → Lengths seg c ls (Table (x .count) (x .cursor))
   sent k =
@@ -35,6 +42,7 @@ module _ {seg : List ℕ} {c : Cursor} {x : Received} {ls : List ℕ} (r : Recei
             };
         codes = record { long = whole-long (r .whole) (f .few); within = count-fits _ (r .whole); short = f .short; few = f .few };
         same = refl;
+        held = ap (λ (t : Kept). t .lengths) (r .whole);
       }
 
 receive-requires : tie.Need-receive-requires
