@@ -2,12 +2,18 @@
 use Prim.Native.Nat.{ℕ}
 use mathlib.Core.Path.{_≡_, refl, sym, ap, _∙_}
 use mathlib.Core.List.{List}
+use base.Logic.{emp}
+use contract.Lifetimes.{Lfts}
 use denote.Ref.{RefT, now}
+use denote.Triple.Clauses.{AtExit}
+use borrow.Fn.Claims.{AllOf}
+use borrow.Fn.World.{World, Pr, w₀, ArgsD, ResD}
+use borrow.Fn.Read.{ReadAt, no-know, r-last}
 use Rattle.crn_format.specs.Codes.{Drawn, symbolAt, failed}
-use Rattle.crn_format.specs.Reading.{Want, aSymbol, aNumber}
-use Rattle.crn_symbol_codec.specs.Cursors.{place, Holds}
+use Rattle.crn_format.specs.Reading.{Want}
+use Rattle.crn_symbol_codec.specs.Cursors.{place}
 use Rattle.crn_symbol_codec.specs.Taking.{Takes}
-use Rattle.crn_symbol_codec.specs.Decoders.{Decodes, SomeCode}
+use Rattle.crn_symbol_codec.specs.Decoders.{SomeCode}
 use Rattle.crn_symbol_codec.specs.Drawing.{drew}
 use Rattle.crn_symbol_codec.specs.declared.Taken.{Taken}
 use Rattle.crn_symbol_codec.specs.declared.Taken.the-variants as taken
@@ -16,8 +22,13 @@ use Rattle.crn_reader.specs.Pairs.{stepOf}
 use Rattle.crn_reader.specs.declared.Reader.{Reader}
 use Rattle.crn_reader.specs.declared.Pair.{Pair}
 use Rattle.crn_reader.specs.declared.Pair.the-variants.{Both, Failed}
+use Rattle.crn_reader.proofs.make as make
+use Rattle.crn_reader.proofs.place as placing
+use Rattle.crn_reader.proofs.number as number
+use Rattle.crn_reader.proofs.draw as draw
 use Rattle.crn_reader.proofs.read_pair.Reads as read-pair
-use Rattle.crn_laws_results.specs.Settled.{SettledIf, theAnswer, alike}
+use Rattle.crn_laws_results.specs.Settled.{Settled, SettledIf, theAnswer, alike}
+use Rattle.crn_laws_results.specs.Seen.{spotOf}
 use Rattle.crn_laws_results.proofs.Steps.{got-tells, refused-tells, got-or-refused}
 use Rattle.crn_laws_results.proofs.Cursors.{takes-settled}
 
@@ -30,18 +41,34 @@ step-tells (Failed n p) (Failed m q) e = let both = refused-tells e in λ i. Fai
 pub read-pair-settled : SettledIf (λ (lookup, (sorted, _)) r. SomeCode (now lookup) (now sorted)) read-pair.Post theAnswer
 read-pair-settled _ _ _ r s _ _ h _ p q = step-tells r s (alike (p (h .code) (h .decodes)) (q (h .code) (h .decodes)))
 
--- ---- the functions that hold or lend a reader, of which the checker has no plain contract: their clauses as they stand there
+-- ---- the functions that hold or lend a reader. The checker makes no `Post` of their contracts, so it is made here, as it makes others':
+-- what whoever shows the `ensures` has to show, by a reading of it that says the same at every model
 
--- the segment, and the place in it
-abbrev pub spotOf : Reader → RefT (List ℕ) × ℕ
-spotOf r = (r .seg, place (r .cursor))
+abbrev Shown : (ensures : (w : World) → Pr w) (reading : (w : World) → ReadAt w (λ w. emp (w .𝓤)) no-know (ensures w))
+    → ((w : World) → reading w .owes ≡ reading w₀ .owes) → Type 0
+Shown ensures reading same = AllOf (reading w₀ .owes)
 
-pub make-settled : {seg : RefT (List ℕ)} {r s : Reader} → (r .seg ≡ seg) × Holds (now seg) (r .cursor) × (place (r .cursor) ≡ 0)
-    → (s .seg ≡ seg) × Holds (now seg) (s .cursor) × (place (s .cursor) ≡ 0) → spotOf r ≡ spotOf s
-make-settled p q = λ i. (alike (p .0) (q .0) i, alike (p .2) (q .2) i)
+abbrev make-post : (κs : Lfts 1) → ArgsD make.signature κs → ResD make.signature κs → AtExit make.ended κs → Type 0
+make-post κs a r e =
+    Shown (λ w. make.clauses (w .𝓤) (w .H) (w .𝓖 .A) (w .𝓜 .mem) (w .𝓡 .run) κs a .ensures tt r e) (λ w. r-last _) (λ w. refl)
 
-pub place-settled : (r : Reader) {p q : ℕ} → p ≡ place (r .cursor) → q ≡ place (r .cursor) → p ≡ q
-place-settled r e f = alike e f
+abbrev place-post : (κs : Lfts 1) → ArgsD placing.signature κs → ResD placing.signature κs → AtExit placing.ended κs → Type 0
+place-post κs a r e =
+    Shown (λ w. placing.clauses (w .𝓤) (w .H) (w .𝓖 .A) (w .𝓜 .mem) (w .𝓡 .run) κs a .ensures tt r e) (λ w. r-last _) (λ w. refl)
+
+abbrev number-post : (κs : Lfts 2) → ArgsD number.signature κs → ResD number.signature κs → AtExit number.ended κs → Type 0
+number-post κs a r e =
+    Shown (λ w. number.clauses (w .𝓤) (w .H) (w .𝓖 .A) (w .𝓜 .mem) (w .𝓡 .run) κs a .ensures tt r e) (λ w. r-last _) (λ w. refl)
+
+abbrev draw-post : (κs : Lfts 4) → ArgsD draw.signature κs → ResD draw.signature κs → AtExit draw.ended κs → Type 0
+draw-post κs a r e =
+    Shown (λ w. draw.clauses (w .𝓤) (w .H) (w .𝓖 .A) (w .𝓜 .mem) (w .𝓡 .run) κs a .ensures tt r e) (λ w. r-last _) (λ w. refl)
+
+pub make-settled : Settled make-post (λ a r e. spotOf r)
+make-settled _ _ _ _ _ _ _ p q = λ i. (alike (p .0) (q .0) i, alike (p .2) (q .2) i)
+
+pub place-settled : Settled place-post theAnswer
+place-settled _ _ _ _ _ _ _ p q = alike p q
 
 -- the place after an answer
 placeAfter : ℕ → Drawn → ℕ
@@ -55,18 +82,16 @@ after r (taken.Failed n) = refl
 
 -- what is taken, and the reader after it: `before` and those after it are what is lent
 taken-settled : {x : Want} {before r s : Reader} {t u : Taken} → Takes (now (before .seg)) x (before .cursor) t → r ≡ movedBy before t
-    → Takes (now (before .seg)) x (before .cursor) u → s ≡ movedBy before u → (drew t ≡ drew u) × (spotOf r ≡ spotOf s)
+    → Takes (now (before .seg)) x (before .cursor) u → s ≡ movedBy before u
+    → _≡_ {A = Drawn × (RefT (List ℕ) × ℕ)} (drew t, spotOf r) (drew u, spotOf s)
 taken-settled {before = before} {t = t} {u = u} p e q f =
     let same = takes-settled p q in
-    (same, ap spotOf e ∙ after before t ∙ ap (λ (d : Drawn). (before .seg, placeAfter (place (before .cursor)) d)) same ∙ sym (after before u) ∙ sym (ap spotOf f))
+    let moved = ap {B = RefT (List ℕ) × ℕ} (λ d. (before .seg, placeAfter (place (before .cursor)) d)) same in
+    λ i. (same i, (ap spotOf e ∙ after before t ∙ moved ∙ sym (after before u) ∙ sym (ap spotOf f)) i)
 
-pub number-settled : {n : ℕ} {before r s : Reader} {t u : Taken}
-    → Takes (now (before .seg)) (aNumber n) (before .cursor) t × (r ≡ movedBy before t)
-    → Takes (now (before .seg)) (aNumber n) (before .cursor) u × (s ≡ movedBy before u) → (drew t ≡ drew u) × (spotOf r ≡ spotOf s)
-number-settled p q = taken-settled (p .0) (p .1) (q .0) (q .1)
+pub number-settled : Settled {X = Drawn × (RefT (List ℕ) × ℕ)} number-post (λ a t (r, _). (drew t, spotOf (now r)))
+number-settled _ _ _ _ _ _ _ p q = taken-settled (p .0) (p .1) (q .0) (q .1)
 
-pub draw-settled : {lookup sorted : List ℕ} {before r s : Reader} {t u : Taken} → SomeCode lookup sorted
-    → ((ls : List ℕ) → Decodes ls lookup sorted → Takes (now (before .seg)) (aSymbol ls) (before .cursor) t) × (r ≡ movedBy before t)
-    → ((ls : List ℕ) → Decodes ls lookup sorted → Takes (now (before .seg)) (aSymbol ls) (before .cursor) u) × (s ≡ movedBy before u)
-    → (drew t ≡ drew u) × (spotOf r ≡ spotOf s)
-draw-settled h p q = taken-settled (p .0 (h .code) (h .decodes)) (p .1) (q .0 (h .code) (h .decodes)) (q .1)
+pub draw-settled : SettledIf {X = Drawn × (RefT (List ℕ) × ℕ)} (λ (lookup, (sorted, _)) t. SomeCode (now lookup) (now sorted)) draw-post
+    (λ a t (lookup, (sorted, (r, _))). (drew t, spotOf (now r)))
+draw-settled _ _ _ _ _ _ _ h _ p q = taken-settled (p .0 (h .code) (h .decodes)) (p .1) (q .0 (h .code) (h .decodes)) (q .1)

@@ -5,26 +5,25 @@ use mathlib.Core.Path.{_≡_, refl, sym, ap, _∙_}
 use mathlib.Core.List.{List}
 use lib.Dec.{eqb}
 use borrow.Author.Tests.{eqb-true, eqb-false}
-use contract.Lifetimes.{Lfts}
 use denote.Ref.{RefT, now}
 use Rattle.crn_format.specs.Choice.{pick}
 use Rattle.crn_format.specs.Reading.{got, refused, Place, spot}
 use Rattle.crn_format.specs.Opening.{tableOf}
 use Rattle.crn_format.specs.Unpacking.{lengthsOf}
 use Rattle.crn_symbol_codec.specs.Cursors.{place}
-use Rattle.crn_symbol_codec.specs.Drawing.{drew}
+use Rattle.crn_symbol_codec.specs.Decoders.{Decodes}
 use Rattle.crn_symbol_codec.specs.declared.Cursor.{Cursor}
-use Rattle.crn_symbol_codec.specs.declared.Taken.{Taken}
 use Rattle.crn_code_tables.specs.declared.Received.{Received}
 use Rattle.crn_code_tables.specs.Receiving.{said, heldBy, Receives}
 use Rattle.crn_code_tables.proofs.receive.Reads as receive
 use Rattle.crn_static_huffman_data_model.proofs.build.Reads as build
+use Rattle.crn_palettes.proofs.build_decoder.Reads as build-decoder
 use Rattle.crn_chunks.specs.Meaning.{part}
-use Rattle.crn_decoders.specs.Tables.{CodedTo}
-use Rattle.crn_decoders.specs.declared.decoders.Sizes.{Sizes}
-use Rattle.crn_short_draw.proofs.draw.Reads as draw
+use Rattle.crn_decoders.specs.Tables.{tablesIn}
+use Rattle.crn_decoders.proofs.make_tables.Reads as make-tables
 use Rattle.crn_laws_results.specs.Settled.{Settled, alike}
 use Rattle.crn_laws_results.specs.Seen.{receivedSeen}
+use Rattle.crn_laws_results.specs.Draws.{SameDraws, DrawsSettled}
 use Rattle.crn_laws_results.proofs.Steps.{got-tells, refused-tells, got-or-refused}
 use Rattle.crn_laws_results.proofs.Cursors.{takes-settled}
 
@@ -57,21 +56,25 @@ module _ {seg : List ℕ} {c : Cursor} {r s : Received} {d e : List ℕ} (p : Re
 pub receive-settled : Settled receive.Post (λ a r (seg, (c, (lengths, _))). receivedSeen r (now lengths))
 receive-settled _ _ _ _ _ _ _ p q = receives-settled p q
 
--- ---- two tables that were built of the same lengths: whatever a draw from the one gives, a draw from the other gives. Of what `build` was given and
--- leaves, the third is the lookup and the fourth the sorted symbols
+-- ---- decoder tables, made twice of the same lengths: whatever a draw from the one gives, a draw from the other gives
 
-module _ (κ₁ κ₂ : Lfts 3) (given d e : RefT (List ℕ) × (ℕ × (RefT (List ℕ) × (RefT (List ℕ) × Unit {0}))))
-    (p : build.Post κ₁ given tt d) (q : build.Post κ₂ given tt e) (seg : RefT (List ℕ)) (c : Cursor) where
-  pub build-settled : (κ₃ κ₄ : Lfts 3) (r s : Taken) (f g : RefT (List ℕ) × (RefT (List ℕ) × (RefT (List ℕ) × (Cursor × Unit {0}))))
-      → draw.Post κ₃ (d .1 .1 .0, (d .1 .1 .1 .0, (seg, (c, tt)))) r f → draw.Post κ₄ (e .1 .1 .0, (e .1 .1 .1 .0, (seg, (c, tt)))) s g → drew r ≡ drew s
-  build-settled _ _ _ _ _ _ x y = takes-settled (x (now (given .0)) p) (y (now (given .0)) q)
+decodes-settled : {ls l₁ s₁ l₂ s₂ : List ℕ} → Decodes ls l₁ s₁ → Decodes ls l₂ s₂ → (x₁ y₁ x₂ y₂ : RefT (List ℕ))
+    → now x₁ ≡ l₁ → now y₁ ≡ s₁ → now x₂ ≡ l₂ → now y₂ ≡ s₂ → SameDraws x₁ y₁ x₂ y₂
+decodes-settled {ls} p q x₁ y₁ x₂ y₂ a b c d =
+    let one : Decodes ls (now x₁) (now y₁) = rw (a, b) p in
+    let other : Decodes ls (now x₂) (now y₂) = rw (c, d) q in
+    ((λ _ _ _ _ _ _ _ _ u v. takes-settled (u ls one) (v ls other)), (λ _ _ _ _ _ _ _ _ u v. takes-settled (u ls one) (v ls other)))
 
--- ---- a level's tables, made twice (`make_tables` ensures `CodedTo`): the same of table number k
+pub build-settled : DrawsSettled build.Post (λ a. Unit {0}) (λ a (_, (_, (lookup, (sorted, _)))). (now lookup, now sorted))
+build-settled _ _ _ _ _ _ p q = decodes-settled p q
 
-module _ {cs : ℕ → List ℕ} {n : ℕ} {z : Sizes} {l₁ l₂ s₁ s₂ : List ℕ} (p : CodedTo cs n z l₁ s₁) (q : CodedTo cs n z l₂ s₂) (k : ℕ) (there : k < n)
-    (x₁ x₂ y₁ y₂ seg : RefT (List ℕ)) (c : Cursor) where
-  pub make-tables-settled : now x₁ ≡ part (z .«lookup_step») l₁ k → now y₁ ≡ part (z .«sorted_step») s₁ k
-      → now x₂ ≡ part (z .«lookup_step») l₂ k → now y₂ ≡ part (z .«sorted_step») s₂ k
-      → (κ₁ κ₂ : Lfts 3) (r s : Taken) (f g : RefT (List ℕ) × (RefT (List ℕ) × (RefT (List ℕ) × (Cursor × Unit {0}))))
-      → draw.Post κ₁ (x₁, (y₁, (seg, (c, tt)))) r f → draw.Post κ₂ (x₂, (y₂, (seg, (c, tt)))) s g → drew r ≡ drew s
-  make-tables-settled a₁ b₁ a₂ b₂ _ _ _ _ _ _ u v = takes-settled (u (cs k) (rw (a₁, b₁) (p .each k there))) (v (cs k) (rw (a₂, b₂) (q .each k there)))
+pub build-decoder-settled : DrawsSettled build-decoder.Post (λ a. Unit {0})
+    (λ a (_, (_, (_, (lookup, (sorted, _))))). (now lookup, now sorted))
+build-decoder-settled _ _ _ _ _ _ p q = decodes-settled p q
+
+-- a level's tables: the same of table number k
+module _ (k : ℕ) where
+  pub make-tables-settled : DrawsSettled make-tables.Post (λ (color, (alpha, _)). k < tablesIn color alpha)
+      (λ (_, (_, (_, (_, (_, (_, (_, (_, (z, _))))))))) (_, (_, (_, (_, (_, (_, (_, (_, (_, (lookup, (sorted, _))))))))))).
+      (part (z .«lookup_step») (now lookup) k, part (z .«sorted_step») (now sorted) k))
+  make-tables-settled _ _ _ _ _ there p q = decodes-settled (p .each k there) (q .each k there)

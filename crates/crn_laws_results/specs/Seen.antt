@@ -3,6 +3,7 @@
 use Prim.Native.Nat.{ℕ}
 use mathlib.Core.Bool.{Bool}
 use mathlib.Core.List.{List}
+use denote.Ref.{RefT}
 use Rattle.crn_format.specs.Reading.{Step, got, refused, Spending}
 use Rattle.crn_format.specs.Level.{Running}
 use Rattle.crn_format.specs.Grid.{painted, blank}
@@ -13,6 +14,7 @@ use Rattle.crn_code_tables.specs.Receiving.{heldBy}
 use Rattle.crn_code_tables.specs.declared.Received.{Received}
 use Rattle.crn_palettes.specs.declared.reading.Sent.{Sent}
 use Rattle.crn_palettes.specs.declared.reading.Sent.the-variants.{Table as Sends, Refused}
+use Rattle.crn_reader.specs.declared.Reader.{Reader}
 use Rattle.crn_chunks.specs.Meaning.{spending, stopped, runningOf}
 use Rattle.crn_unpacker.specs.declared.Went.{Went}
 use Rattle.crn_unpacker.specs.declared.Went.the-variants.{On, Stopped}
@@ -31,6 +33,10 @@ receivedSeen r lengths = record { refusal = r .refusal; at = r .at; table = held
 abbrev pub sentSeen : Sent → Step ℕ ℕ
 sentSeen (Sends n d) = got n (place d)
 sentSeen (Refused n p) = refused n p
+
+-- of a reader: the segment, and the place in it
+abbrev pub spotOf : Reader → RefT (List ℕ) × ℕ
+spotOf r = (r .seg, place (r .cursor))
 
 -- of a level's chunks: what is carried on from the last, with the place after it and the budget that is left; or the refusal
 abbrev pub went : Bool → Went → Step Spending Running
