@@ -46,12 +46,15 @@ struct crunch_table {
     uint8_t lengths[8192];
 };
 
+/* The five code tables of a file's levels. */
+struct crunch_tables {
+    struct crunch_table chunk_encoding, color_endpoint_delta, color_selector_delta, alpha_endpoint_delta, alpha_selector_delta;
+};
+
 /* An opened file, without its palettes: some 41,000 bytes. */
 struct crunch_record {
     struct crunch_header header;
-    struct {
-        struct crunch_table chunk_encoding, color_endpoint_delta, color_selector_delta, alpha_endpoint_delta, alpha_selector_delta;
-    } tables;
+    struct crunch_tables tables;
 };
 
 /* The header of a file, by which the palettes' buffers are sized: refusal 1, 2 or 3 with zeros, or 0. */
@@ -107,7 +110,10 @@ struct crunch_level_sizes crunch_level_sizes(struct crunch_header header, uint32
 
 /* A level of every face unpacked into dst: face f starts at f times the distance, rows of blocks are a pitch apart. Refusal 0 with the symbols drawn and the cut-outs
  * (DXT1 blocks whose first colour word is below the second); or the refusal, the bit and the symbols drawn. Each symbol drawn is taken off the budget. Bytes that
- * belong to no block stay as they were; refused before its first symbol the level leaves dst untouched, refused later it leaves its blocks zero. */
+ * belong to no block stay as they were.
+ *
+ * Refused by 2, 4, 5, 6, 10, 11 or 12, before its first draw, the level leaves dst untouched. Refused later, by 7, 8, 13, 14 or 15, it leaves
+ * every block of its grid zero and all else as it was. A budget of 0 is refused at the first draw, so by 15 with 0 symbols and blocks zero. */
 struct crunch_answer {
     uint32_t refusal;
     size_t at;
@@ -130,7 +136,11 @@ struct crunch_answer crunch_unpack_level_parts(
 
 /* The levels from `first` on to the last, each with its rows and faces close together (crunch_level_sizes), and its blocks where those of the level before end: a small
  * file's sooner than one by one. How many went through, the symbols drawn in all, the cut-outs of those that went through; and the refusal of the level after them with
- * its bit, 0 where each went through. That level's blocks are as crunch_unpack_level leaves them, and later bytes are untouched. */
+ * its bit, 0 where each went through. Each symbol drawn is taken off the budget.
+ *
+ * The levels before the refused one keep their blocks, and all bytes after its own stay as they were. Its own are as crunch_unpack_level
+ * leaves them: untouched where it is refused before its first draw (2, 4, 5, 6, 10, 11, 12), zero where it is refused later (7, 8, 13, 14,
+ * 15). A budget of 0 is refused at the first draw of the level `first`, so by 15 with 0 levels, 0 symbols and that level's blocks zero. */
 struct crunch_several {
     uint32_t refusal;
     size_t at;

@@ -244,7 +244,9 @@ impl<'a> Crn<'a> {
     /// Unpacks a level, all faces, into `dst`: face f starts at f times the distance, and rows of blocks are a pitch apart, both in bytes. Each symbol drawn is
     /// taken off the budget; with less than the level needs the answer is [`Refusal::Budget`].
     ///
-    /// Bytes that belong to no block are left as they were. A level refused before its first symbol leaves `dst` untouched, one refused later leaves its blocks zero.
+    /// Bytes that belong to no block are left as they were. A level refused by 2, 4, 5, 6, 10, 11 or 12, before its first draw, leaves `dst`
+    /// untouched; one refused later, by 7, 8, 13, 14 or 15, leaves every block of its grid zero and all else as it was. A budget of 0 is
+    /// refused at the first draw, so by [`Refusal::Budget`] with blocks zero.
     ///
     /// ```
     /// # let file = std::fs::read("../samples/dxt1.crn")?;

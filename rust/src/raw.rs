@@ -74,6 +74,7 @@ pub struct Looked {
 }
 
 /// What [`open`] answers: refusal 0; or the refusal and the bit that it names, counted from its segment's first.
+#[repr(C)]
 #[derive(Clone, Copy, Debug, PartialEq, Eq)]
 pub struct Opened {
     pub refusal: u32,
@@ -301,6 +302,10 @@ macro_rules! over_record {
 }
 
 /// Unpacks a level of every face: face f starts at f times the distance, rows are a pitch apart. The budget is counted down by each symbol drawn.
+///
+/// Bytes that belong to no block stay as they were. Refused by 2, 4, 5, 6, 10, 11 or 12, before its first draw, the level leaves `dst`
+/// untouched; refused later, by 7, 8, 13, 14 or 15, it leaves every block of its grid zero. A budget of 0 is refused at the first draw,
+/// so by 15 with 0 symbols and blocks zero.
 #[allow(clippy::too_many_arguments)]
 pub fn unpack_level(
     record: &Record,
@@ -316,7 +321,10 @@ pub fn unpack_level(
 }
 
 /// Unpacks the levels from `first` on to the last, each with its rows and faces close together ([`level_sizes`]), and its blocks where those of the level before end.
-/// The first refusal stops: levels before it stay, its own blocks are as [`unpack_level`] leaves them, later bytes are untouched.
+///
+/// The first refusal stops: the levels before it keep their blocks, and all bytes after its own stay as they were. Its own are as
+/// [`unpack_level`] leaves them: untouched where it is refused before its first draw, zero where it is refused later. A budget of 0 is
+/// refused at the first draw of the level `first`, so by 15 with 0 levels, 0 symbols and that level's blocks zero.
 pub fn unpack_levels(record: &Record, file: &[u8], palettes: &Palettes<'_>, first: u32, budget: &mut u64, dst: &mut [u8]) -> Several {
     over_record!(crunch_unpack_levels_parts, record, file, palettes, first, budget, dst.as_mut_ptr(), dst.len())
 }

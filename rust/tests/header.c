@@ -1,4 +1,4 @@
-/* What include/crunch.h lays out, and what the archive gives through it, for rust/tests/readme.rs to compare. */
+/* What the archive gives through include/crunch.h, for rust/tests/readme.rs to compare. */
 #include <crunch.h>
 #include <inttypes.h>
 #include <stdio.h>
@@ -8,22 +8,34 @@ static uint32_t ce[8192], cs[8192];
 static uint16_t ae[8192], al[3 * 8192];
 static struct crunch_record record;
 
-static void told(const char *name)
+static size_t sample(const char *name)
 {
     char path[64];
     snprintf(path, sizeof path, "samples/%s", name);
     FILE *in = fopen(path, "rb");
-    size_t size = in ? fread(file, 1, sizeof file, in) : 0;
+    return in ? fread(file, 1, sizeof file, in) : 0;
+}
+
+static uint64_t hash_of(const uint8_t *bytes, size_t len)
+{
+    uint64_t hash = 0xcbf29ce484222325u;
+    for (size_t i = 0; i < len; i++)
+        hash = (hash ^ bytes[i]) * 0x100000001b3u;
+    return hash;
+}
+
+static void told(const char *name)
+{
+    size_t size = sample(name);
     struct crunch_looked looked = crunch_look(file, size);
     struct crunch_header h = looked.header;
     struct crunch_palette_words w = crunch_palette_words(h);
     struct crunch_opened o = crunch_open(&record, file, size, ce, w.color_endpoints, cs, w.color_selectors, ae, w.alpha_endpoints, al, w.alpha_selectors);
     struct crunch_level_sizes s = crunch_level_sizes(record.header, 1);
-    uint64_t budget = s.symbols, hash = 0xcbf29ce484222325u;
+    uint64_t budget = s.symbols;
     struct crunch_answer a = crunch_unpack_level(&record, file, size, ce, w.color_endpoints, cs, w.color_selectors, ae, w.alpha_endpoints, al, w.alpha_selectors,
                                                  1, s.pitch, s.distance, &budget, blocks, s.bytes);
-    for (size_t i = 0; i < s.bytes; i++)
-        hash = (hash ^ blocks[i]) * 0x100000001b3u;
+    uint64_t hash = hash_of(blocks, s.bytes);
     printf("%s %u %u %u %u %u %u\n", name, h.width, h.height, h.levels, h.faces, h.format, h.level_offsets[1]);
     printf("words %zu %zu %zu %zu\n", w.color_endpoints, w.color_selectors, w.alpha_endpoints, w.alpha_selectors);
     printf("sizes %zu %zu %zu %zu %zu %zu %" PRIu64 "\n", s.columns, s.rows, s.block_bytes, s.pitch, s.distance, s.bytes, s.symbols);
@@ -36,30 +48,45 @@ static void told(const char *name)
     budget = 1 << 20;
     struct crunch_several all = crunch_unpack_levels(&record, file, size, ce, w.color_endpoints, cs, w.color_selectors, ae, w.alpha_endpoints, al, w.alpha_selectors,
                                                      1, &budget, blocks, bytes);
-    hash = 0xcbf29ce484222325u;
-    for (size_t i = 0; i < bytes; i++)
-        hash = (hash ^ blocks[i]) * 0x100000001b3u;
+    hash = hash_of(blocks, bytes);
     printf("levels %u %zu %u %" PRIu64 " %" PRIu64 " %" PRIu64 "\n", all.refusal, all.at, all.levels, all.symbols, all.cutouts, hash);
+}
+
+/* The destination: bytes none of which is zero. */
+static void pattern(size_t len)
+{
+    for (size_t i = 0; i < len; i++)
+        blocks[i] = i % 251 + 1;
+}
+
+/* A budget of 0, with room between rows, faces and after the last; and a level that is not there, with that budget. */
+static void without_budget(const char *name)
+{
+    size_t size = sample(name), len = 4096;
+    uint64_t budget = 0;
+    crunch_open(&record, file, size, ce, 8192, cs, 8192, ae, 8192, al, 3 * 8192);
+    struct crunch_level_sizes s = crunch_level_sizes(record.header, 1);
+    size_t pitch = s.pitch + 24, distance = s.rows * pitch + 12;
+    const uint32_t asked[] = {1, 13};
+    for (int i = 0; i < 2; i++) {
+        uint32_t level = asked[i];
+        pattern(len);
+        struct crunch_answer a =
+            crunch_unpack_level(&record, file, size, ce, 8192, cs, 8192, ae, 8192, al, 3 * 8192, level, pitch, distance, &budget, blocks, len);
+        printf("level %u %zu %" PRIu64 " %" PRIu64 " %" PRIu64 " %" PRIu64 "\n", a.refusal, a.at, a.symbols, a.cutouts, budget, hash_of(blocks, len));
+        pattern(len);
+        struct crunch_several all =
+            crunch_unpack_levels(&record, file, size, ce, 8192, cs, 8192, ae, 8192, al, 3 * 8192, level, &budget, blocks, len);
+        printf("levels %u %zu %u %" PRIu64 " %" PRIu64 " %" PRIu64 " %" PRIu64 "\n", all.refusal, all.at, all.levels, all.symbols, all.cutouts,
+               budget, hash_of(blocks, len));
+    }
 }
 
 int main(void)
 {
-    printf("header %zu %zu %zu %zu %zu\n", sizeof(struct crunch_header), offsetof(struct crunch_header, format), offsetof(struct crunch_header, color_endpoints),
-           offsetof(struct crunch_header, tables_size), offsetof(struct crunch_header, level_offsets));
-    printf("record %zu %zu %zu %zu\n", sizeof(struct crunch_record), offsetof(struct crunch_record, tables), sizeof(struct crunch_table),
-           offsetof(struct crunch_record, tables.alpha_selector_delta) - offsetof(struct crunch_record, tables));
-    printf("looked %zu %zu\n", sizeof(struct crunch_looked), offsetof(struct crunch_looked, header));
-    printf("opened %zu %zu %zu %zu\n", sizeof(struct crunch_opened_header), offsetof(struct crunch_opened_header, at), offsetof(struct crunch_opened_header, header),
-           offsetof(struct crunch_opened_header, counts));
-    printf("counts %zu %zu\n", sizeof(struct crunch_counts), offsetof(struct crunch_counts, alpha_selector_delta));
-    printf("answer %zu %zu %zu %zu\n", sizeof(struct crunch_answer), offsetof(struct crunch_answer, at), offsetof(struct crunch_answer, symbols),
-           offsetof(struct crunch_answer, cutouts));
-    printf("several %zu %zu %zu %zu\n", sizeof(struct crunch_several), offsetof(struct crunch_several, at), offsetof(struct crunch_several, levels),
-           offsetof(struct crunch_several, cutouts));
-    printf("words %zu %zu\n", sizeof(struct crunch_palette_words), offsetof(struct crunch_palette_words, alpha_selectors));
-    printf("sizes %zu %zu %zu\n", sizeof(struct crunch_level_sizes), offsetof(struct crunch_level_sizes, block_bytes), offsetof(struct crunch_level_sizes, symbols));
     told("cube.crn");
     told("dxt5.crn");
+    without_budget("cube.crn");
     struct crunch_opened none = crunch_open(&record, file, 73, ce, 8192, cs, 8192, ae, 8192, al, 3 * 8192);
     struct crunch_header h = crunch_look(file, sizeof file).header;
     struct crunch_header wide = h;

@@ -1,7 +1,20 @@
 //! The package's own functions.
 mod common;
-use common::{names, root, sample};
-use crunch_proved::{raw, Crn, Format, Refusal};
+use common::{names, pattern, root, sample};
+use crunch_proved::{raw, Counts, Crn, Format, Refusal};
+
+/// The record that a file opens to.
+fn record_of(file: &[u8]) -> Box<raw::Record> {
+    let (words, mut record) = (raw::palette_words(&raw::look(file).header), raw::Record::empty());
+    let mut lent = raw::PalettesMut {
+        color_endpoints: &mut vec![0; words.color_endpoints],
+        color_selectors: &mut vec![0; words.color_selectors],
+        alpha_endpoints: &mut vec![0; words.alpha_endpoints],
+        alpha_selectors: &mut vec![0; words.alpha_selectors],
+    };
+    assert_eq!(raw::open(file, &mut lent, &mut record), raw::Opened { refusal: 0, at: 0 });
+    record
+}
 
 #[test]
 fn a_file_tells_its_header() {
@@ -27,6 +40,51 @@ fn sizes_are_those_of_the_format() {
     header.width = 5000;
     let none = raw::LevelSizes { refusal: 2, columns: 0, rows: 0, block_bytes: 0, pitch: 0, distance: 0, bytes: 0, symbols: 0 };
     assert_eq!(raw::level_sizes(&header, 0), none);
+}
+
+/// The archive's structs are laid out as the package's: a header, and the sizes by it, of numbers that are all different.
+#[test]
+fn each_number_of_a_header_and_of_sizes_is_in_its_place() {
+    let part = |n: u32| raw::Part { offset: 0x10203 * n, size: 0x30201 * n, count: 1000 + n };
+    let header = raw::Header {
+        header_size: 122,
+        header_crc16: 0xABCD,
+        data_size: 140,
+        data_crc16: 0xBCDE,
+        width: 1000,
+        height: 500,
+        levels: 13,
+        faces: 6,
+        format: 2,
+        flags: 0x1234,
+        reserved: 0x23456789,
+        userdata0: 0x3456789A,
+        userdata1: 0x456789AB,
+        color_endpoints: part(1),
+        color_selectors: part(2),
+        alpha_endpoints: part(3),
+        alpha_selectors: part(4),
+        tables_size: 0x5678,
+        tables_offset: 0x6789AB,
+        level_offsets: std::array::from_fn(|i| 0x789ABC00 + i as u32),
+    };
+    let (h, mut file) = (&header, b"Hx".to_vec());
+    // the width of each field in bytes
+    let mut fields = vec![(2, h.header_size), (2, h.header_crc16), (4, h.data_size), (2, h.data_crc16), (2, h.width), (2, h.height)];
+    fields.extend([(1, h.levels), (1, h.faces), (1, h.format), (2, h.flags), (4, h.reserved), (4, h.userdata0), (4, h.userdata1)]);
+    let parts = [h.color_endpoints, h.color_selectors, h.alpha_endpoints, h.alpha_selectors];
+    fields.extend(parts.iter().flat_map(|p| [(3, p.offset), (3, p.size), (2, p.count)]));
+    fields.extend([(2, h.tables_size), (3, h.tables_offset)]);
+    fields.extend(h.level_offsets.map(|offset| (4, offset)));
+    fields.iter().for_each(|(bytes, number)| file.extend(&number.to_be_bytes()[4 - bytes..]));
+    file.resize(140, 0);
+    assert_eq!(raw::look(&file), raw::Looked { refusal: 0, header });
+    let words = raw::PaletteWords { color_endpoints: 1001, color_selectors: 1002, alpha_endpoints: 1003, alpha_selectors: 3 * 1004 };
+    assert_eq!(raw::palette_words(h), words);
+    // 125 by 63 chunks of six faces: sixteen symbols a chunk, and one for every three chunks
+    let (columns, rows, pitch, symbols) = (250, 125, 250 * 16, 16 * 6 * 125 * 63 + 2 * 125 * 63);
+    let sizes = raw::LevelSizes { refusal: 0, columns, rows, block_bytes: 16, pitch, distance: 125 * pitch, bytes: 6 * 125 * pitch, symbols };
+    assert_eq!(raw::level_sizes(h, 0), sizes);
 }
 
 #[test]
@@ -82,27 +140,113 @@ fn levels_of_one_call_are_those_of_one_each() {
 fn a_refused_level_stops_those_after_it() {
     let file = sample("dxt1.crn");
     let crn = Crn::open(&file).unwrap();
-    let (mut record, mut dst) = (raw::Record::empty(), vec![7; 2048 + 512 + 128]);
-    let words = raw::palette_words(crn.header());
-    let (mut ce, mut cs) = (vec![0; words.color_endpoints], vec![0; words.color_selectors]);
-    raw::open(
-        &file,
-        &mut raw::PalettesMut { color_endpoints: &mut ce, color_selectors: &mut cs, alpha_endpoints: &mut [], alpha_selectors: &mut [] },
-        &mut record,
-    );
+    let (record, mut dst) = (record_of(&file), vec![7; 2048 + 512 + 128]);
     let first = crn.unpack_level(0).unwrap();
     // a symbol more than the first level draws: the second is refused, its blocks are zero, and what follows is untouched
     let mut budget = first.counts.symbols + 1;
     let answer = raw::unpack_levels(&record, &file, &crn.palettes(), 0, &mut budget, &mut dst);
     assert_eq!((answer.refusal, answer.levels, answer.symbols, answer.cutouts, budget), (15, 1, first.counts.symbols + 1, first.counts.cutouts, 0));
     assert!(dst[..2048] == first.blocks && dst[2048..2560].iter().all(|b| *b == 0) && dst[2560..].iter().all(|b| *b == 7));
-    // a destination for the first level and not for the second
+    // as many as the first level draws: nothing is left for the second, whose blocks are zero all the same
+    dst.fill(7);
+    let mut budget = first.counts.symbols;
+    let answer = raw::unpack_levels(&record, &file, &crn.palettes(), 0, &mut budget, &mut dst);
+    let Counts { symbols, cutouts } = first.counts;
+    assert_eq!((answer, budget), (raw::Several { refusal: 15, at: 0, levels: 1, symbols, cutouts }, 0));
+    assert!(dst[..2048] == first.blocks && dst[2048..2560].iter().all(|b| *b == 0) && dst[2560..].iter().all(|b| *b == 7));
+    // a destination for the first level and not for the second, which leaves it untouched
+    dst.fill(7);
     let mut budget = 9999;
     let answer = raw::unpack_levels(&record, &file, &crn.palettes(), 0, &mut budget, &mut dst[..2559]);
     assert_eq!((answer.refusal, answer.at, answer.levels, answer.symbols, budget), (12, 0, 1, first.counts.symbols, 9999 - first.counts.symbols));
+    assert!(dst[..2048] == first.blocks && dst[2048..].iter().all(|b| *b == 7));
     let mut cut = record.clone();
     cut.tables.chunk_encoding.lengths[0] = 17;
     assert_eq!(raw::unpack_levels(&cut, &file, &crn.palettes(), 0, &mut budget, &mut dst).refusal, 6);
+}
+
+#[test]
+fn a_budget_of_0_leaves_the_blocks_zero_and_all_else_as_it_was() {
+    let file = sample("cube.crn");
+    let crn = Crn::open(&file).unwrap();
+    let sizes = crn.level_sizes(1).unwrap();
+    // 24 bytes between rows, 12 more between faces, and some after the last
+    let (pitch, distance) = (sizes.pitch + 24, sizes.rows * (sizes.pitch + 24) + 12);
+    let before = pattern(6 * distance + 30);
+    let mut asked = before.clone();
+    (0..6).for_each(|face| (0..sizes.rows).for_each(|row| asked[face * distance + row * pitch..][..sizes.pitch].fill(0)));
+    let (mut dst, mut budget) = (before.clone(), 0);
+    assert_eq!(crn.unpack_level_into(1, pitch, distance, &mut budget, &mut dst), Err(Refusal::Budget { bit: 0 }));
+    assert!(dst == asked && budget == 0);
+    // all levels in one call: the first of them, and no byte after its blocks
+    let (mut asked, mut dst) = (before.clone(), before);
+    asked[..sizes.bytes].fill(0);
+    let answer = raw::unpack_levels(&record_of(&file), &file, &crn.palettes(), 1, &mut budget, &mut dst);
+    assert_eq!(answer, raw::Several { refusal: 15, at: 0, levels: 0, symbols: 0, cutouts: 0 });
+    assert!(dst == asked && budget == 0);
+}
+
+/// A call of level 0 of a file, to be spoilt.
+struct Call<'a> {
+    record: Box<raw::Record>,
+    palettes: raw::Palettes<'a>,
+    level: u32,
+    pitch: usize,
+    budget: u64,
+    len: usize,
+}
+
+/// 2, 4, 5, 6, 10, 11 and 12 come before the first draw and leave the destination untouched; 7, 8, 13, 14 and 15 leave the grid's blocks zero.
+#[test]
+fn what_a_refused_level_leaves_goes_by_its_number() {
+    let file = sample("cube.crn");
+    let crn = Crn::open(&file).unwrap();
+    let sizes = crn.level_sizes(0).unwrap();
+    type Spoil = fn(&mut Call);
+    let spoilt: [(u32, Spoil); 13] = [
+        (2, |c| c.record.header.width = 5000),
+        (4, |c| c.record.header.level_offsets[0] = u32::MAX),
+        (5, |c| c.palettes.color_endpoints = &[]),
+        (6, |c| c.record.tables.chunk_encoding.lengths[0] = 17),
+        (10, |c| c.level = 5),
+        (11, |c| c.pitch = 4),
+        (12, |c| c.len = 767),
+        // one code, of 16 zeros
+        (7, |c| c.record.tables.chunk_encoding.lengths = std::array::from_fn(|i| if i == 0 { 16 } else { 0 })),
+        // a segment of one byte
+        (8, |c| c.record.header.level_offsets[1] = c.record.header.level_offsets[0] + 1),
+        // every chunk symbol 1,024 higher
+        (13, |c| {
+            c.record.tables.chunk_encoding.count = 8192;
+            c.record.tables.chunk_encoding.lengths.rotate_right(1024);
+        }),
+        (14, |c| c.record.header.color_endpoints.count = 1),
+        (15, |c| c.budget = 0),
+        (15, |c| c.budget = 100),
+    ];
+    for (number, spoil) in spoilt {
+        let mut call = Call { record: record_of(&file), palettes: crn.palettes(), level: 0, pitch: sizes.pitch + 8, budget: sizes.symbols, len: 2000 };
+        spoil(&mut call);
+        let (distance, before) = (sizes.rows * (sizes.pitch + 8) + 4, pattern(call.len));
+        let (mut apart, mut close) = (before.clone(), before.clone());
+        let early = matches!(number, 2 | 4 | 5 | 6 | 10 | 11 | 12);
+        if !early {
+            (0..6).for_each(|face| (0..sizes.rows).for_each(|row| apart[face * distance + row * call.pitch..][..sizes.pitch].fill(0)));
+            close[..sizes.bytes].fill(0);
+        }
+        let (mut dst, mut budget) = (before.clone(), call.budget);
+        let one = raw::unpack_level(&call.record, &file, &call.palettes, call.level, call.pitch, distance, &mut budget, &mut dst);
+        assert_eq!((one.refusal, one.cutouts, call.budget - budget), (number, 0, one.symbols));
+        assert!(!early || one.symbols == 0 && one.at == 0);
+        assert!(dst == apart, "a level refused by {number}");
+        if number == 11 {
+            continue; // whose pitch is not asked
+        }
+        let (mut dst, mut budget) = (before, call.budget);
+        let all = raw::unpack_levels(&call.record, &file, &call.palettes, call.level, &mut budget, &mut dst);
+        assert_eq!((all.refusal, all.at, all.levels, all.symbols, all.cutouts), (number, one.at, 0, one.symbols, 0));
+        assert!(dst == close, "all levels, the first refused by {number}");
+    }
 }
 
 /// The largest level there is: six faces of 4,096 by 4,096 pixels, every code one bit, all of them 0.

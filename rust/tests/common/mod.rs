@@ -12,6 +12,11 @@ pub fn sample(name: &str) -> Vec<u8> {
     std::fs::read(root("samples").join(name)).unwrap()
 }
 
+/// What a destination holds before a call: bytes none of which is zero, so that one that was cleared is seen.
+pub fn pattern(len: usize) -> Vec<u8> {
+    (0..len).map(|i| (i % 251) as u8 + 1).collect()
+}
+
 /// FNV-1a of 64 bits.
 pub fn hash(bytes: impl IntoIterator<Item = u8>) -> u64 {
     bytes.into_iter().fold(0xcbf29ce484222325, |h, b| (h ^ b as u64).wrapping_mul(0x100000001b3))
