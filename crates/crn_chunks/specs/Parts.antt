@@ -1,5 +1,5 @@
 -- What the parts of a chunk answer: a symbol, an index, the indices of tiles and of positions, and an encoding.
-use Prim.Native.Nat.{ℕ, zero, suc, _+_, _<_}
+use Prim.Native.Nat.{ℕ, zero, suc, _+_, _-_, _<_}
 use mathlib.Core.Path.{_≡_}
 use mathlib.Core.Bool.{Bool}
 use mathlib.Core.List.{List, [], _∷_, _++_}
@@ -7,9 +7,12 @@ use lib.ListN.{length, getD, take, drop}
 use lib.Dec.{ltb}
 use Rattle.crn_format.specs.Choice.{pick, not, either}
 use Rattle.crn_format.specs.Limits.{tooLong}
-use Rattle.crn_format.specs.Reading.{Reading, answer, refuse, symbol, next, Step, got, Spending, run}
+use Rattle.crn_format.specs.Reading.{Reading, answer, refuse, symbol, next, Step, got, refused, Spending, spot, run}
 use Rattle.crn_format.specs.Level.{stepped, endpointIndices, planeEndpoints, planeSelectors, positionSelectors, encoding, lastOr, lasts, lastRow}
-use Rattle.crn_symbol_codec.specs.Cursors.{Holds}
+use Rattle.crn_symbol_codec.specs.Cursors.{place, Holds}
+use Rattle.crn_symbol_codec.specs.declared.Cursor.{Cursor}
+use Rattle.crn_symbol_codec.specs.declared.Taken.{Taken}
+use Rattle.crn_symbol_codec.specs.declared.Taken.the-variants.{Value, Failed}
 use Rattle.crn_chunks.specs.Meaning.{source, spending, stopped, row, planeOf, planes, Coded, Served, pendingOf, most}
 use Rattle.crn_chunks.specs.declared.Side.{Side}
 use Rattle.crn_chunks.specs.declared.Planes.{Planes}
@@ -43,6 +46,10 @@ encoded (Uncoded x) = stopped x
 
 -- ---- what holds of an answer that is no refusal
 
+abbrev pub WhenTaken : (ℕ → Cursor → Type 0) → Taken → Type 0
+WhenTaken P (Value v d) = P v d
+WhenTaken P (Failed n) = Unit {0}
+
 abbrev pub WhenDrew : (ℕ → Stream → Type 0) → Drew → Type 0
 WhenDrew P (Got v t) = P v t
 WhenDrew P (Lost x) = Unit {0}
@@ -56,6 +63,16 @@ WhenEncoded P (Code e v t) = P e t
 WhenEncoded P (Uncoded x) = Unit {0}
 
 -- ---- a symbol, and an index
+
+-- the answer to a draw at s, as a step: a symbol is taken off the budget
+abbrev pub charging : Stream → Taken → Step Spending ℕ
+charging s (Value v d) = got v (record { place = spot (place d) (place (s .cursor)); left = s .left - 1 })
+charging s (Failed n) = refused n (record { place = spot (place (s .cursor)) (place (s .cursor)); left = s .left })
+
+-- r is what drawing a symbol of table number `which` gives at s, 15 included
+pub record Budgeted (lookup sorted seg : List ℕ) (ps : Planes) (which : ℕ) (s : Stream) (r : Taken) : Type 0 where
+  pub same : (cs : ℕ → List ℕ) → Coded cs ps lookup sorted → charging s r ≡ run (source seg) (symbol (cs which)) (spending s)
+  pub on : WhenTaken (λ v d. Holds seg d × (0 < s .left)) r
 
 -- a is what reading m gives at s, and its number is below the bound
 pub record Draws (lookup sorted seg : List ℕ) (ps : Planes) (m : (ℕ → List ℕ) → Reading ℕ) (s : Stream) (bound : ℕ) (a : Drew) : Type 0 where

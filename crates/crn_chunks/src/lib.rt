@@ -6,7 +6,7 @@ ghost use lib.ListN.{length, getD};
 ghost use Rattle.crn_format.specs.Limits.{tooLong, maxEntries};
 ghost use Rattle.crn_format.specs.Reading.{symbol};
 ghost use Rattle.crn_chunks.specs.Meaning.{Onward, Served, Named, Small, most};
-ghost use Rattle.crn_chunks.specs.Parts.{Ready, Draws, indexOf, farthest, reach, Tiled, AllTiled, Picks, AllPicked, Encodes};
+ghost use Rattle.crn_chunks.specs.Parts.{Ready, Budgeted, Draws, indexOf, farthest, reach, Tiled, AllTiled, Picks, AllPicked, Encodes};
 ghost use Rattle.crn_chunks.specs.Reads.{Reads, insideOf};
 use crn_consts::tile_count;
 use crn_symbol_codec::Cursor;
@@ -83,7 +83,30 @@ pub enum Chunked {
     Refused(Stop),
 }
 
-// A symbol of table number `which`, under the budget.
+// A draw of table number `which` under the budget: refusal 15 where nothing is left of it, else a symbol, or refusal 7 or 8.
+fn budgeted_draw(
+    lookup: &[u32],
+    sorted: &[u16],
+    seg: &[u8],
+    ps: Planes,
+    which: usize,
+    s: Stream,
+) -> Taken
+    requires { ⌜ Ready (now lookup) (now sorted) (now seg) ps s ⌝ ∗ ⌜ which < ps .tables ⌝ }
+    ensures { λ r. ⌜ Budgeted (now (lookup .entry)) (now (sorted .entry)) (now (seg .entry)) ps which s r ⌝ }
+{
+    if s.left == 0 {
+        return Taken::Failed(15);
+    }
+    let c = s.cursor;
+    let from = which * ps.lookup_step;
+    let first = which * ps.sorted_step;
+    let end = from + ps.lookup_step;
+    let last = first + ps.sorted_step;
+    draw(&lookup[from..end], &sorted[first..last], seg, c)
+}
+
+// A symbol of table number `which`, under the budget. A draw that brings none gives its refusal, 7, 8 or 15, and nothing is drawn after it.
 fn take(lookup: &[u32], sorted: &[u16], seg: &[u8], ps: Planes, which: usize, s: Stream) -> Drew
     requires { ⌜ Ready (now lookup) (now sorted) (now seg) ps s ⌝ ∗ ⌜ which < ps .tables ⌝ }
     ensures { λ a. ⌜ Draws (now (lookup .entry)) (now (sorted .entry)) (now (seg .entry)) ps (λ cs. symbol (cs which)) s farthest a ⌝ }
@@ -91,18 +114,7 @@ fn take(lookup: &[u32], sorted: &[u16], seg: &[u8], ps: Planes, which: usize, s:
     let c = s.cursor;
     let left = s.left;
     let at = place(seg, c);
-    if left == 0 {
-        return Drew::Lost(Stop {
-            number: 15,
-            at,
-            left,
-        });
-    }
-    let from = which * ps.lookup_step;
-    let first = which * ps.sorted_step;
-    let end = from + ps.lookup_step;
-    let last = first + ps.sorted_step;
-    let t = draw(&lookup[from..end], &sorted[first..last], seg, c);
+    let t = budgeted_draw(lookup, sorted, seg, ps, which, s);
     let Taken::Value(v, d) = t else {
         return Drew::Lost(Stop {
             number: refusal(t),

@@ -17,14 +17,9 @@ use Rattle.crn_chunks.specs.declared.Planes.{Planes}
 use Rattle.crn_chunks.specs.declared.Drew.{Drew}
 use Rattle.crn_chunks.proofs.Tiling.{Tiling, tiling-none, tiling-more, tiling-done, tiles-one, tiles-two}
 use Rattle.crn_chunks.proofs.Picking.{Picking, picking-none, picking-more, picking-done, picks-one, picks-two}
-use Rattle.crn_quick.specs.declared.Step.{Step}
-use Rattle.crn_quick.specs.declared.Steps.{Steps}
 use Rattle.crn_chunks.specs.declared.Carried.{Carried}
 use Rattle.crn_chunks.specs.declared.Stream.{Stream}
-use Rattle.crn_quick.specs.Quick.{streamAt, each, Both, Stepped, Tiles, QuickTiled, QuickAllTiled, QuickPicks, QuickAllPicked}
-
-pub never : {b : Bool} {A : Type 0} → b ≡ true → b ≡ false → A
-never e f = let z : _≡_ {A = ℕ} 0 1 = cc in absurd (omega arith)
+use Rattle.crn_quick.specs.Quick.{streamAt, each, Both, Stepped, PlaneTiles, PlanesTiles, Picked, PickedAll}
 
 pub each-one : {two : Bool} (n : ℕ) → two ≡ false → each two n ≡ n
 each-one n h = rw h
@@ -53,16 +48,16 @@ module _ {lookup sorted seg : List ℕ} {ps : Planes} {p : Side} {base n i : ℕ
     pub quick-now : Tiling lookup sorted seg ps p base n i (streamAt c 0 k) before out (streamAt at (x 0 k 0 (omega arith) .blamed) 0) last k
     quick-now = x 0 k 0 (omega arith) .tiling
 
-    pub quick-more : {a : Step} → k < n → Stepped lookup sorted seg ps (p .ends) (p .endpoints) true last at a → a .lost ≡ false
-        → base + n ≤ length before → QuickTiling lookup sorted seg ps p base n i c before (set out (base + k) (a .number)) (a .cursor) (a .number) (k + 1)
-    quick-more more s kept room b l m f =
+    pub quick-more : {d : Cursor} {j len : ℕ} → k < n → Stepped lookup sorted seg ps (p .ends) (p .endpoints) true last at d j len
+        → base + n ≤ length before → QuickTiling lookup sorted seg ps p base n i c before (set out (base + k) j) d j (k + 1)
+    quick-more more s room b l m f =
         let y = x b l (m + 1) (omega arith) in
-        record { blamed = place at; tiling = tiling-more (y .tiling) more (s .drawn kept (y .blamed) (m + 1) m refl) refl room }
+        record { blamed = place at; tiling = tiling-more (y .tiling) more (s .drawn (y .blamed) (m + 1) m refl) refl room }
 
-    pub quick-done : n ≤ k → k ≤ n → (b l m : ℕ) → l ≡ m + n → {a : Step} → a .number ≡ last → a .cursor ≡ at → Tiles lookup sorted seg ps p base n i (streamAt c b l) m before out a
-    quick-done u w b l m f {a} g h =
+    pub quick-done : n ≤ k → k ≤ n → PlaneTiles lookup sorted seg ps p base n i c before out at last
+    quick-done u w b l m f =
         let y = x b l m (omega arith) in
-        record { blamed = y .blamed; tiled = rw (g, h) (tiling-done (y .tiling) u) }
+        record { blamed = y .blamed; tiled = tiling-done (y .tiling) u }
 
 -- ---- the tiles of each plane
 
@@ -76,42 +71,45 @@ tiles-moved {seg = seg} {p = p} {n = n} {i = i} {b = b} {l = l} e t =
       kept = t .kept;
     }
 
--- c0 is the cursor c, filled, and d0 the one after the first plane's
-module _ {lookup sorted seg : List ℕ} (ps : Planes) {n e0 e1 : ℕ} {c c0 : Cursor} {before mid : List ℕ} {t : Step} (at : place c0 ≡ place c)
-    (x : QuickTiled lookup sorted seg ps (ps .first) 0 n e0 c0 before mid t) (kept : t .lost ≡ false) where
-  pub tiled-one : ps .two ≡ false → e1 < most → QuickAllTiled lookup sorted seg ps n e0 e1 c mid (record { cursor = t .cursor; i0 = t .number; i1 = e1; length = 0; lost = false })
-  tiled-one h o z b l m f =
-      let y = x kept b l m (f ∙ ap (λ (v : ℕ). m + v) (each-one n h)) in
+-- c0 is the cursor c, filled, and d0 the one after the first plane's, d
+module _ {lookup sorted seg : List ℕ} (ps : Planes) {n e0 e1 : ℕ} {c c0 d : Cursor} {before mid : List ℕ} {i : ℕ} (at : place c0 ≡ place c)
+    (x : PlaneTiles lookup sorted seg ps (ps .first) 0 n e0 c0 before mid d i) where
+  pub tiled-one : ps .two ≡ false → e1 < most → PlanesTiles lookup sorted seg ps n e0 e1 c mid d i e1
+  tiled-one h o b l m f =
+      let y = x b l m (f ∙ ap (λ (v : ℕ). m + v) (each-one n h)) in
       record { blamed = y .blamed; tiled = tiles-one ps e1 (tiles-moved at (y .tiled)) refl h o }
 
-  pub tiled-two : {d0 : Cursor} {after : List ℕ} {u : Step} → ps .two ≡ true → place d0 ≡ place (t .cursor) → QuickTiled lookup sorted seg ps (ps .second) 4 n e1 d0 mid after u
-      → n ≤ 4 → length after ≡ length mid → QuickAllTiled lookup sorted seg ps n e0 e1 c after (record { cursor = u .cursor; i0 = t .number; i1 = u .number; length = 0; lost = u .lost })
-  tiled-two h at0 y few long z b l m f =
-      let v = x kept b l (m + n) (f ∙ ap (λ (w : ℕ). m + w) (each-two n h) ∙ omega arith) in
-      let w = y z (v .blamed) (m + n) m refl in
+  pub tiled-two : {d0 e : Cursor} {after : List ℕ} {j : ℕ} → ps .two ≡ true → place d0 ≡ place d
+      → PlaneTiles lookup sorted seg ps (ps .second) 4 n e1 d0 mid after e j
+      → n ≤ 4 → length after ≡ length mid → PlanesTiles lookup sorted seg ps n e0 e1 c after e i j
+  tiled-two h at0 y few long b l m f =
+      let v = x b l (m + n) (f ∙ ap (λ (w : ℕ). m + w) (each-two n h) ∙ omega arith) in
+      let w = y (v .blamed) (m + n) m refl in
       record { blamed = w .blamed; tiled = tiles-two ps e1 (tiles-moved at (v .tiled)) refl h (tiles-moved at0 (w .tiled)) refl few long }
 
 -- ---- a position
 
-module _ {lookup sorted seg : List ℕ} (ps : Planes) (inside : Bool) (s0 s1 : ℕ) {c : Cursor} {t : Step}
-    (x : Stepped lookup sorted seg ps (ps .first .sels) (ps .first .selectors) inside s0 c t) (kept : t .lost ≡ false) where
-  pub picked-one : ps .two ≡ false → QuickPicks lookup sorted seg ps inside s0 s1 c (record { cursor = t .cursor; i0 = t .number; i1 = 0; length = t .length; lost = false })
+module _ {lookup sorted seg : List ℕ} (ps : Planes) (inside : Bool) (s0 s1 : ℕ) {c d : Cursor} {i len : ℕ}
+    (x : Stepped lookup sorted seg ps (ps .first .sels) (ps .first .selectors) inside s0 c d i len) where
+  pub picked-one : ps .two ≡ false → Picked lookup sorted seg ps inside s0 s1 c d i 0 len
   picked-one h =
       record {
-        picked = λ good b l m f.
-            let q : place (t .cursor) - t .length ≡ place c = omega (arith, x .passed kept) in
-            rw q (picks-one ps inside s0 s1 (x .drawn kept b l m (f ∙ ap (λ (z : ℕ). m + z) (each-one 1 h))) refl h);
-        passed = λ good. omega (arith, x .passed kept);
+        picked = λ b l m f.
+            let q : place d - len ≡ place c = omega (arith, x .passed) in
+            rw q (picks-one ps inside s0 s1 (x .drawn b l m (f ∙ ap (λ (z : ℕ). m + z) (each-one 1 h))) refl h);
+        passed = omega (arith, x .passed);
       }
 
-  pub picked-two : {u : Step} → ps .two ≡ true → Stepped lookup sorted seg ps (ps .second .sels) (ps .second .selectors) inside s1 (t .cursor) u
-      → QuickPicks lookup sorted seg ps inside s0 s1 c (record { cursor = u .cursor; i0 = t .number; i1 = u .number; length = u .length; lost = u .lost })
-  picked-two {u} h y =
+  pub picked-two : {e : Cursor} {j n : ℕ} → ps .two ≡ true
+      → Stepped lookup sorted seg ps (ps .second .sels) (ps .second .selectors) inside s1 d e j n
+      → Picked lookup sorted seg ps inside s0 s1 c e i j n
+  picked-two {e} {j} {n} h y =
       record {
-        picked = λ good b l m f.
-            let q : place (u .cursor) - u .length ≡ place (t .cursor) = omega (arith, y .passed good) in
-            rw q (picks-two ps inside s0 s1 (x .drawn kept b l (m + 1) (f ∙ ap (λ (z : ℕ). m + z) (each-two 1 h) ∙ omega arith)) refl h (y .drawn good (place c) (m + 1) m refl) refl);
-        passed = λ good. omega (arith, y .passed good);
+        picked = λ b l m f.
+            let q : place e - n ≡ place d = omega (arith, y .passed) in
+            rw q (picks-two ps inside s0 s1 (x .drawn b l (m + 1) (f ∙ ap (λ (z : ℕ). m + z) (each-two 1 h) ∙ omega arith)) refl h
+            (y .drawn (place c) (m + 1) m refl) refl);
+        passed = omega (arith, y .passed);
       }
 
 -- ---- k of the four positions done, from a cursor
@@ -148,10 +146,10 @@ module _ {lookup sorted seg : List ℕ} {ps : Planes} {right bottom : Bool} {s0 
     pub picks-now : Picking lookup sorted seg ps right bottom s0 s1 (streamAt c 0 (each (ps .two) k)) before out (streamAt at (x .going 0 (each (ps .two) k) 0 (omega arith) .blamed) 0) i0 i1 k
     picks-now = x .going 0 (each (ps .two) k) 0 (omega arith) .picking
 
-    pub picks-more : {d : Cursor} {a : Steps} → Holds seg d → place d ≡ place at → k < 4 → QuickPicks lookup sorted seg ps (getD (insideOf right bottom) k true) i0 i1 d a → a .lost ≡ false
-        → length before ≡ 16
-        → QuickPicking lookup sorted seg ps right bottom s0 s1 c before (set (set out (8 + k) (a .i0)) (12 + k) (a .i1)) (a .cursor) (a .i0) (a .i1) (a .length) (k + 1)
-    picks-more {d} {a} h e more s kept room =
+    pub picks-more : {d q : Cursor} {i j n : ℕ} → Holds seg d → place d ≡ place at → k < 4
+        → Picked lookup sorted seg ps (getD (insideOf right bottom) k true) i0 i1 d q i j n → length before ≡ 16
+        → QuickPicking lookup sorted seg ps right bottom s0 s1 c before (set (set out (8 + k) i) (12 + k) j) q i j n (k + 1)
+    picks-more {d} {q} {n = n} h e more s room =
         record {
           going = λ b l m f.
               let y = x .going b l (m + each (ps .two) 1) (each-more (ps .two) k m l f) in
@@ -164,43 +162,45 @@ module _ {lookup sorted seg : List ℕ} {ps : Planes} {right bottom : Bool} {s0 
                 final = t .final;
                 long = t .long;
                 kept = t .kept;
-                left = λ cs q. t .left cs q
-                    ∙ ap (λ (z : ℕ). run (source seg) (positionSelectors (planes cs ps) (drop k (insideOf right bottom)) (row (ps .two) i0 i1) (rowsTo (ps .two) out k)) (record { place = spot z (y .blamed); left = m + each (ps .two) 1 })) (sym e);
+                left = λ cs z. t .left cs z
+                    ∙ ap (λ (w : ℕ). run (source seg) (positionSelectors (planes cs ps) (drop k (insideOf right bottom)) (row (ps .two) i0 i1) (rowsTo (ps .two) out k)) (record { place = spot w (y .blamed); left = m + each (ps .two) 1 })) (sym e);
               } in
               record {
-                blamed = place (a .cursor) - a .length;
-                picking = picking-more moved more refl (s .picked kept (y .blamed) (m + each (ps .two) 1) m refl) refl room;
+                blamed = place q - n;
+                picking = picking-more moved more refl (s .picked (y .blamed) (m + each (ps .two) 1) m refl) refl room;
                 behind = λ z. refl;
               };
-          passed = s .passed kept;
+          passed = s .passed;
         }
 
-    pub picks-done : 4 ≤ k → QuickAllPicked lookup sorted seg ps (insideOf right bottom) s0 s1 c before out (record { cursor = at; i0 = i0; i1 = i1; length = len; lost = false })
+    pub picks-done : 4 ≤ k → PickedAll lookup sorted seg ps (insideOf right bottom) s0 s1 c before out at i0 i1 len
     picks-done h =
         record {
-          picked = λ good b l m f.
+          picked = λ b l m f.
               let some : k ≤ 4 = picks-now .some in
               let q : k ≡ 4 = omega arith in
               let y = x .going b l m (f ∙ ap (λ (z : ℕ). m + each (ps .two) z) (sym q)) in
               rw (y .behind (omega arith)) at (picking-done (y .picking) h);
-          passed = λ good. x .passed;
+          passed = x .passed;
         }
 
 -- ---- the positions of one plane
 
-module _ {lookup sorted seg : List ℕ} {ps : Planes} {which size i : ℕ} {c : Cursor} {t : Step} (x : (inside : Bool) → Stepped lookup sorted seg ps which size inside i c t) (kept : t .lost ≡ false) where
-  pub stepped-holds : Holds seg (t .cursor)
-  stepped-holds = x true .drawn kept 0 1 0 refl .on .0
+module _ {lookup sorted seg : List ℕ} {ps : Planes} {which size i : ℕ} {c d : Cursor} {j len : ℕ}
+    (x : (inside : Bool) → Stepped lookup sorted seg ps which size inside i c d j len) where
+  pub stepped-holds : Holds seg d
+  stepped-holds = x true .drawn 0 1 0 refl .on .0
 
-  pub stepped-small : t .number < most
-  stepped-small = let a = x true .drawn kept 0 1 0 refl .on .1 in omega arith
+  pub stepped-small : j < most
+  stepped-small = let a = x true .drawn 0 1 0 refl .on .1 in omega arith
 
-pub single-more : {lookup sorted seg : List ℕ} (ps : Planes) (right bottom : Bool) {s0 s1 : ℕ} {c : Cursor} {before out : List ℕ} {at : Cursor} {i0 i1 len : ℕ} (k : ℕ) {d : Cursor} {t : Step}
-    → ps .two ≡ false → length before ≡ 16 → QuickPicking lookup sorted seg ps right bottom s0 s1 c before out at i0 i1 len k → Holds seg d → place d ≡ place at → k < 4
-    → ((inside : Bool) → Stepped lookup sorted seg ps (ps .first .sels) (ps .first .selectors) inside i0 d t) → t .lost ≡ false
-    → QuickPicking lookup sorted seg ps right bottom s0 s1 c before (set (set out (8 + k) (t .number)) (12 + k) 0) (t .cursor) (t .number) 0 (t .length) (k + 1)
-single-more ps right bottom {i0 = i0} {i1 = i1} k one room x h e more y kept =
-    picks-more x h e more (picked-one ps (getD (insideOf right bottom) k true) i0 i1 (y (getD (insideOf right bottom) k true)) kept one) refl room
+pub single-more : {lookup sorted seg : List ℕ} (ps : Planes) (right bottom : Bool) {s0 s1 : ℕ} {c : Cursor} {before out : List ℕ}
+    {at : Cursor} {i0 i1 len : ℕ} (k : ℕ) {d q : Cursor} {i n : ℕ} → ps .two ≡ false → length before ≡ 16
+    → QuickPicking lookup sorted seg ps right bottom s0 s1 c before out at i0 i1 len k → Holds seg d → place d ≡ place at → k < 4
+    → ((inside : Bool) → Stepped lookup sorted seg ps (ps .first .sels) (ps .first .selectors) inside i0 d q i n)
+    → QuickPicking lookup sorted seg ps right bottom s0 s1 c before (set (set out (8 + k) i) (12 + k) 0) q i 0 n (k + 1)
+single-more ps right bottom {i0 = i0} {i1 = i1} k one room x h e more y =
+    picks-more x h e more (picked-one ps (getD (insideOf right bottom) k true) i0 i1 (y (getD (insideOf right bottom) k true)) one) room
 
 -- ---- tiles and positions
 
@@ -209,12 +209,12 @@ spent : (two : Bool) (n all l : ℕ) → n ≤ 4 → 16 ≤ all → l ≡ all - 
 spent true n all l a b e = omega arith
 spent false n all l a b e = omega arith
 
-pub both-read : {lookup sorted seg : List ℕ} (ps : Planes) {n : ℕ} (right bottom : Bool) (r : Carried) (s : Stream) {mid out : List ℕ} {t u : Steps}
-    → QuickAllTiled lookup sorted seg ps n (r .e0) (r .e1) (s .cursor) mid t → t .lost ≡ false
-    → QuickAllPicked lookup sorted seg ps (insideOf right bottom) (r .s0) (r .s1) (t .cursor) mid out u → u .lost ≡ false
-    → length out ≡ length mid → n ≤ 4 → 16 ≤ s .left → {b l : ℕ} → b ≡ place (u .cursor) - u .length → l ≡ s .left - each (ps .two) (n + 4)
-    → Both lookup sorted seg ps n right bottom r s out (record { e0 = t .i0; e1 = t .i1; s0 = u .i0; s1 = u .i1; stream = streamAt (u .cursor) b l; lost = false })
-both-read ps {n} right bottom r s {mid} {out} {t} {u} x f y g long few room {b} {l} p q =
-    let a = x f (s .blamed) (s .left) (l + each (ps .two) 4) (spent (ps .two) n (s .left) l few room q) in
-    let d = y .picked g (a .blamed) (l + each (ps .two) 4) l refl in
-    record { mid = mid; between = streamAt (t .cursor) (a .blamed) (l + each (ps .two) 4); long = long; tiled = a .tiled; picked = rw p d }
+pub both-read : {lookup sorted seg : List ℕ} (ps : Planes) {n : ℕ} (right bottom : Bool) (r : Carried) (s : Stream) {mid out : List ℕ}
+    {d e : Cursor} {e0 e1 s0 s1 len : ℕ} → PlanesTiles lookup sorted seg ps n (r .e0) (r .e1) (s .cursor) mid d e0 e1
+    → PickedAll lookup sorted seg ps (insideOf right bottom) (r .s0) (r .s1) d mid out e s0 s1 len
+    → length out ≡ length mid → n ≤ 4 → 16 ≤ s .left → {b l : ℕ} → b ≡ place e - len → l ≡ s .left - each (ps .two) (n + 4)
+    → Both lookup sorted seg ps n right bottom r s out e0 e1 s0 s1 (streamAt e b l)
+both-read ps {n} right bottom r s {mid} {d = d} x y long few room {b} {l} p q =
+    let a = x (s .blamed) (s .left) (l + each (ps .two) 4) (spent (ps .two) n (s .left) l few room q) in
+    let w = y .picked (a .blamed) (l + each (ps .two) 4) l refl in
+    record { mid = mid; between = streamAt d (a .blamed) (l + each (ps .two) 4); long = long; tiled = a .tiled; picked = rw p w }

@@ -2,14 +2,14 @@
 // nothing is known, and the chunk is read anew by the way that finds the refusal, `crn_chunks::read_chunk`. It is lost at every refusal, near the
 // segment's end, where a plane's codes are too long for the bits at hand, and at an index out of range, even where no block uses it.
 ghost use mathlib.Core.Path.{_≡_};
-ghost use mathlib.Core.Bool.{Bool, true, false};
+ghost use mathlib.Core.Bool.{true, false};
 ghost use Prim.Native.Nat.{_+_, _<_, _≤_};
 ghost use lib.ListN.{length};
 ghost use Rattle.crn_format.specs.Limits.{tooLong, maxEntries};
 ghost use Rattle.crn_chunks.specs.Meaning.{Onward, Served, Named, Small, most};
 ghost use Rattle.crn_chunks.specs.Parts.{Ready};
-ghost use Rattle.crn_chunks.specs.Reads.{Reads, insideOf};
-ghost use Rattle.crn_quick.specs.Quick.{Able, each as «eachOf», Found, Stepped, QuickTiled, QuickAllTiled, QuickPicks, QuickAllPicked, QuickEncodes, QuickRead, QuickReads};
+ghost use Rattle.crn_chunks.specs.Reads.{Reads};
+ghost use Rattle.crn_quick.specs.Quick.{Able, each as «eachOf», QuickFound, QuickStepped, QuickTiled, QuickAllTiled, QuickPicks, QuickAllPicked, QuickEncodes, QuickRead, QuickReads};
 use crn_chunks::Carried;
 use crn_chunks::Chunked;
 use crn_chunks::Planes;
@@ -23,47 +23,36 @@ use crn_symbol_codec::place;
 use crn_symbol_codec::refill;
 use crn_utils::limit;
 
-// A symbol or an index: the cursor after it, and the length of its code.
-pub struct Step {
-    pub cursor: Cursor,
-    pub number: u64,
-    pub length: u64,
-    pub lost: bool,
+// Each answer is taken apart by `let .. else`: where a draw brings no symbol the quick way ends at once.
+
+// A symbol or an index, with the cursor after it and the length of its code.
+pub enum Step {
+    Drawn(Cursor, u64, u64),
+    Lost,
 }
 
-// An index of each plane, the length that of the last; of one plane the second has no meaning.
-pub struct Steps {
-    pub cursor: Cursor,
-    pub i0: u64,
-    pub i1: u64,
-    pub length: u64,
-    pub lost: bool,
+// An index of each plane, and the length of the last; of one plane the second has no meaning.
+pub enum Steps {
+    Pair(Cursor, u64, u64, u64),
+    Lost,
 }
 
 // An encoding, what is pending after it, and the stream.
-pub struct Code {
-    pub encoding: u32,
-    pub pending: u32,
-    pub stream: Stream,
-    pub lost: bool,
+pub enum Code {
+    Next(u32, u32, Stream),
+    Lost,
 }
 
-// The last indices of a chunk's tiles and positions, and the stream.
-pub struct Quick {
-    pub e0: u64,
-    pub e1: u64,
-    pub s0: u64,
-    pub s1: u64,
-    pub stream: Stream,
-    pub lost: bool,
+// The last indices of a chunk's tiles, then of its positions, and the stream.
+pub enum Quick {
+    Indices(u64, u64, u64, u64, Stream),
+    Lost,
 }
 
-// A chunk as read: its encoding, and what is carried on.
-struct QuickChunk {
-    pub encoding: u32,
-    pub carried: Carried,
-    pub stream: Stream,
-    pub lost: bool,
+// A chunk as read: its encoding, what is carried on, and the stream.
+enum QuickChunk {
+    Chunk(u32, Carried, Stream),
+    Lost,
 }
 
 // n for each plane.
@@ -77,42 +66,6 @@ fn each(two: bool, n: u64) -> u64
     n
 }
 
-fn no_step(c: Cursor) -> Step
-    ensures { λ r. ⌜ r .lost ≡ true ⌝ }
-{
-    Step {
-        cursor: c,
-        number: 0,
-        length: 0,
-        lost: true,
-    }
-}
-
-fn no_steps(c: Cursor) -> Steps
-    ensures { λ r. ⌜ r .lost ≡ true ⌝ }
-{
-    Steps {
-        cursor: c,
-        i0: 0,
-        i1: 0,
-        length: 0,
-        lost: true,
-    }
-}
-
-fn not_quick(s: Stream) -> Quick
-    ensures { λ r. ⌜ r .lost ≡ true ⌝ }
-{
-    Quick {
-        e0: 0,
-        e1: 0,
-        s0: 0,
-        s1: 0,
-        stream: s,
-        lost: true,
-    }
-}
-
 // A symbol of table number `which`, from a cursor that has 16 bits, with no budget to look at.
 fn quick_symbol(
     lookup: &[u32],
@@ -123,7 +76,7 @@ fn quick_symbol(
     c: Cursor,
 ) -> Step
     requires { ⌜ Able (now lookup) (now sorted) (now seg) ps c ⌝ ∗ ⌜ which < ps .tables ⌝ }
-    ensures { λ a. ⌜ Found (now (lookup .entry)) (now (sorted .entry)) (now (seg .entry)) ps which c a ⌝ }
+    ensures { λ a. ⌜ QuickFound (now (lookup .entry)) (now (sorted .entry)) (now (seg .entry)) ps which c a ⌝ }
 {
     let from = which * ps.lookup_step;
     let first = which * ps.sorted_step;
@@ -133,11 +86,11 @@ fn quick_symbol(
     let have = c.have;
     let next = c.next;
     if have < 16 {
-        return no_step(c);
+        return Step::Lost;
     }
     let e = entry(&lookup[from..end], &sorted[first..last], bits);
     if e == 0 {
-        return no_step(c);
+        return Step::Lost;
     }
     let length = (e % 64) as u64;
     let cursor = Cursor {
@@ -145,12 +98,7 @@ fn quick_symbol(
         have: have - length,
         next,
     };
-    Step {
-        cursor,
-        number: (e / 64) as u64,
-        length,
-        lost: false,
-    }
+    Step::Drawn(cursor, (e / 64) as u64, length)
 }
 
 // An index, from a cursor that has 16 bits.
@@ -165,21 +113,16 @@ fn quick_index(
     c: Cursor,
 ) -> Step
     requires { ⌜ Able (now lookup) (now sorted) (now seg) ps c ⌝ ∗ ⌜ which < ps .tables ⌝ ∗ ⌜ size ≤ maxEntries ⌝ ∗ ⌜ i < most ⌝ }
-    ensures { λ a. ⌜ ((inside : Bool) → Stepped (now (lookup .entry)) (now (sorted .entry)) (now (seg .entry)) ps which size inside i c a) ⌝ }
+    ensures { λ a. ⌜ QuickStepped (now (lookup .entry)) (now (sorted .entry)) (now (seg .entry)) ps which size i c a ⌝ }
 {
-    let t = quick_symbol(lookup, sorted, seg, ps, which, c);
-    let cursor = t.cursor;
-    let lost = t.lost;
-    if lost {
-        return no_step(cursor);
+    let Step::Drawn(cursor, delta, length) = quick_symbol(lookup, sorted, seg, ps, which, c) else {
+        return Step::Lost;
+    };
+    let index = limit(i + delta, size);
+    if size <= index {
+        return Step::Lost;
     }
-    let index = limit(i + t.number, size);
-    Step {
-        cursor,
-        number: index,
-        length: t.length,
-        lost: size <= index,
-    }
+    Step::Drawn(cursor, index, length)
 }
 
 // The endpoint indices of a plane's n tiles, as `plane_tiles` reads them. The bits at hand have to do: a refill has them for three, and mostly for four.
@@ -203,24 +146,24 @@ fn quick_plane(
     let mut last = i;
     let mut k: usize = 0;
     while k < n {
-        let t = quick_index(lookup, sorted, seg, ps, p.ends, p.endpoints, last, at);
-        let lost = t.lost;
-        if lost {
-            return t;
-        }
-        let j = t.number;
+        let Step::Drawn(after, j, _) = quick_index(
+            lookup,
+            sorted,
+            seg,
+            ps,
+            p.ends,
+            p.endpoints,
+            last,
+            at,
+        ) else {
+            return Step::Lost;
+        };
         out[base + k] = j;
         last = j;
-        let e = t.cursor;
-        at = e;
+        at = after;
         k += 1;
     }
-    Step {
-        cursor: at,
-        number: last,
-        length: 0,
-        lost: false,
-    }
+    Step::Drawn(at, last, 0)
 }
 
 // The same for each plane.
@@ -240,33 +183,19 @@ fn quick_tiles(
 {
     let c0 = refill(seg, c);
     let p = ps.first;
-    let t = quick_plane(lookup, sorted, seg, ps, p, 0, n, e0, c0, out);
-    let d = t.cursor;
-    let lost = t.lost;
-    if lost {
-        return no_steps(d);
-    }
+    let Step::Drawn(d, i, _) = quick_plane(lookup, sorted, seg, ps, p, 0, n, e0, c0, out) else {
+        return Steps::Lost;
+    };
     let two = ps.two;
     if two {
         let d0 = refill(seg, d);
         let q = ps.second;
-        let u = quick_plane(lookup, sorted, seg, ps, q, 4, n, e1, d0, out);
-        let e = u.cursor;
-        return Steps {
-            cursor: e,
-            i0: t.number,
-            i1: u.number,
-            length: 0,
-            lost: u.lost,
+        let Step::Drawn(e, j, _) = quick_plane(lookup, sorted, seg, ps, q, 4, n, e1, d0, out) else {
+            return Steps::Lost;
         };
+        return Steps::Pair(e, i, j, 0);
     }
-    Steps {
-        cursor: d,
-        i0: t.number,
-        i1: e1,
-        length: 0,
-        lost: false,
-    }
+    Steps::Pair(d, i, e1, 0)
 }
 
 // The selector indices of two planes at a position, as `position` reads them.
@@ -280,25 +209,19 @@ fn quick_pair(
     c: Cursor,
 ) -> Steps
     requires { ⌜ Able (now lookup) (now sorted) (now seg) ps c ⌝ ∗ ⌜ (s0 < most) × (s1 < most) ⌝ ∗ ⌜ ps .two ≡ true ⌝ }
-    ensures { λ a. ⌜ ((inside : Bool) → QuickPicks (now (lookup .entry)) (now (sorted .entry)) (now (seg .entry)) ps inside s0 s1 c a) ⌝ }
+    ensures { λ a. ⌜ QuickPicks (now (lookup .entry)) (now (sorted .entry)) (now (seg .entry)) ps s0 s1 c a ⌝ }
 {
     let p = ps.first;
-    let t = quick_index(lookup, sorted, seg, ps, p.sels, p.selectors, s0, c);
-    let d = t.cursor;
-    let lost = t.lost;
-    if lost {
-        return no_steps(d);
-    }
+    let Step::Drawn(d, i, _) = quick_index(lookup, sorted, seg, ps, p.sels, p.selectors, s0, c)
+    else {
+        return Steps::Lost;
+    };
     let q = ps.second;
-    let u = quick_index(lookup, sorted, seg, ps, q.sels, q.selectors, s1, d);
-    let e = u.cursor;
-    Steps {
-        cursor: e,
-        i0: t.number,
-        i1: u.number,
-        length: u.length,
-        lost: u.lost,
-    }
+    let Step::Drawn(e, j, length) = quick_index(lookup, sorted, seg, ps, q.sels, q.selectors, s1, d)
+    else {
+        return Steps::Lost;
+    };
+    Steps::Pair(e, i, j, length)
 }
 
 // Those at the four positions, as `positions` reads them. A refill has bits for a position.
@@ -313,7 +236,7 @@ fn pair_positions(
     out: &mut [u64],
 ) -> Steps
     requires { ⌜ Able (now lookup) (now sorted) (now seg) ps c ⌝ ∗ ⌜ (s0 < most) × (s1 < most) ⌝ ∗ ⌜ length (now out) ≡ 16 ⌝ ∗ ⌜ ps .two ≡ true ⌝ }
-    ensures { λ a. ⌜ ((right bottom : Bool) → QuickAllPicked (now (lookup .entry)) (now (sorted .entry)) (now (seg .entry)) ps (insideOf right bottom) s0 s1 c (now (out .entry)) (now (out .exit)) a) ⌝ }
+    ensures { λ a. ⌜ QuickAllPicked (now (lookup .entry)) (now (sorted .entry)) (now (seg .entry)) ps s0 s1 c (now (out .entry)) (now (out .exit)) a ⌝ }
 {
     let mut at = c;
     let mut i0 = s0;
@@ -322,29 +245,18 @@ fn pair_positions(
     let mut k: usize = 0;
     while k < 4 {
         let d = refill(seg, at);
-        let t = quick_pair(lookup, sorted, seg, ps, i0, i1, d);
-        let lost = t.lost;
-        if lost {
-            return t;
-        }
-        let i = t.i0;
-        let j = t.i1;
+        let Steps::Pair(e, i, j, l) = quick_pair(lookup, sorted, seg, ps, i0, i1, d) else {
+            return Steps::Lost;
+        };
         out[8 + k] = i;
         out[12 + k] = j;
         i0 = i;
         i1 = j;
-        length = t.length;
-        let e = t.cursor;
+        length = l;
         at = e;
         k += 1;
     }
-    Steps {
-        cursor: at,
-        i0,
-        i1,
-        length,
-        lost: false,
-    }
+    Steps::Pair(at, i0, i1, length)
 }
 
 // Those of one plane. A refill has bits for three positions, and mostly for four; without a loop the compiler keeps all four indices in registers.
@@ -359,68 +271,44 @@ fn single_positions(
     out: &mut [u64],
 ) -> Steps
     requires { ⌜ Able (now lookup) (now sorted) (now seg) ps c ⌝ ∗ ⌜ (s0 < most) × (s1 < most) ⌝ ∗ ⌜ length (now out) ≡ 16 ⌝ ∗ ⌜ ps .two ≡ false ⌝ }
-    ensures { λ a. ⌜ ((right bottom : Bool) → QuickAllPicked (now (lookup .entry)) (now (sorted .entry)) (now (seg .entry)) ps (insideOf right bottom) s0 s1 c (now (out .entry)) (now (out .exit)) a) ⌝ }
+    ensures { λ a. ⌜ QuickAllPicked (now (lookup .entry)) (now (sorted .entry)) (now (seg .entry)) ps s0 s1 c (now (out .entry)) (now (out .exit)) a ⌝ }
 {
     let p = ps.first;
     let c0 = refill(seg, c);
-    let t0 = quick_index(lookup, sorted, seg, ps, p.sels, p.selectors, s0, c0);
-    let after0 = t0.cursor;
-    let lost0 = t0.lost;
-    if lost0 {
-        return no_steps(after0);
-    }
-    let t1 = quick_index(
+    let Step::Drawn(c1, i, _) = quick_index(lookup, sorted, seg, ps, p.sels, p.selectors, s0, c0)
+    else {
+        return Steps::Lost;
+    };
+    let Step::Drawn(c2, j, _) = quick_index(lookup, sorted, seg, ps, p.sels, p.selectors, i, c1)
+    else {
+        return Steps::Lost;
+    };
+    let Step::Drawn(after, k, _) = quick_index(lookup, sorted, seg, ps, p.sels, p.selectors, j, c2)
+    else {
+        return Steps::Lost;
+    };
+    let c3 = filled(seg, after);
+    let Step::Drawn(end, l, length) = quick_index(
         lookup,
         sorted,
         seg,
         ps,
         p.sels,
         p.selectors,
-        t0.number,
-        after0,
-    );
-    let after1 = t1.cursor;
-    let lost1 = t1.lost;
-    if lost1 {
-        return no_steps(after1);
-    }
-    let t2 = quick_index(
-        lookup,
-        sorted,
-        seg,
-        ps,
-        p.sels,
-        p.selectors,
-        t1.number,
-        after1,
-    );
-    let after2 = t2.cursor;
-    let lost2 = t2.lost;
-    if lost2 {
-        return no_steps(after2);
-    }
-    let c3 = filled(seg, after2);
-    let t3 = quick_index(lookup, sorted, seg, ps, p.sels, p.selectors, t2.number, c3);
-    let after3 = t3.cursor;
-    let lost3 = t3.lost;
-    if lost3 {
-        return no_steps(after3);
-    }
-    out[8] = t0.number;
+        k,
+        c3,
+    ) else {
+        return Steps::Lost;
+    };
+    out[8] = i;
     out[12] = 0;
-    out[9] = t1.number;
+    out[9] = j;
     out[13] = 0;
-    out[10] = t2.number;
+    out[10] = k;
     out[14] = 0;
-    out[11] = t3.number;
+    out[11] = l;
     out[15] = 0;
-    Steps {
-        cursor: after3,
-        i0: t3.number,
-        i1: 0,
-        length: t3.length,
-        lost: false,
-    }
+    Steps::Pair(end, l, 0, length)
 }
 
 // The selector indices at the four positions.
@@ -435,7 +323,7 @@ fn quick_positions(
     out: &mut [u64],
 ) -> Steps
     requires { ⌜ Able (now lookup) (now sorted) (now seg) ps c ⌝ ∗ ⌜ (s0 < most) × (s1 < most) ⌝ ∗ ⌜ length (now out) ≡ 16 ⌝ }
-    ensures { λ a. ⌜ ((right bottom : Bool) → QuickAllPicked (now (lookup .entry)) (now (sorted .entry)) (now (seg .entry)) ps (insideOf right bottom) s0 s1 c (now (out .entry)) (now (out .exit)) a) ⌝ }
+    ensures { λ a. ⌜ QuickAllPicked (now (lookup .entry)) (now (sorted .entry)) (now (seg .entry)) ps s0 s1 c (now (out .entry)) (now (out .exit)) a ⌝ }
 {
     let two = ps.two;
     if two {
@@ -459,32 +347,29 @@ fn quick_chunk(
     ensures { λ a. ⌜ QuickRead (now (lookup .entry)) (now (sorted .entry)) (now (seg .entry)) ps n r s (now (out .exit)) a ⌝ }
 {
     let c = s.cursor;
-    let t = quick_tiles(lookup, sorted, seg, ps, n, r.e0, r.e1, c, out);
-    let d = t.cursor;
-    let untiled = t.lost;
-    if untiled {
-        return not_quick(s);
-    }
-    let u = quick_positions(lookup, sorted, seg, ps, r.s0, r.s1, d, out);
-    let e = u.cursor;
-    let unpicked = u.lost;
-    if unpicked {
-        return not_quick(s);
-    }
+    let Steps::Pair(d, e0, e1, _) = quick_tiles(lookup, sorted, seg, ps, n, r.e0, r.e1, c, out)
+    else {
+        return Quick::Lost;
+    };
+    let Steps::Pair(e, s0, s1, length) = quick_positions(
+        lookup,
+        sorted,
+        seg,
+        ps,
+        r.s0,
+        r.s1,
+        d,
+        out,
+    ) else {
+        return Quick::Lost;
+    };
     let drawn = each(ps.two, n as u64 + 4);
     let stream = Stream {
         cursor: e,
-        blamed: place(seg, e) - u.length as usize,
+        blamed: place(seg, e) - length as usize,
         left: s.left - drawn,
     };
-    Quick {
-        e0: t.i0,
-        e1: t.i1,
-        s0: u.i0,
-        s1: u.i1,
-        stream,
-        lost: false,
-    }
+    Quick::Indices(e0, e1, s0, s1, stream)
 }
 
 // The next encoding: one that is pending, or the first of a chunk symbol.
@@ -500,49 +385,25 @@ fn quick_code(
     ensures { λ a. ⌜ QuickEncodes (now (lookup .entry)) (now (sorted .entry)) (now (seg .entry)) ps pending s a ⌝ }
 {
     if 64 <= pending {
-        return Code {
-            encoding: pending % 8,
-            pending: 8 + pending / 8 % 8,
-            stream: s,
-            lost: false,
-        };
+        return Code::Next(pending % 8, 8 + pending / 8 % 8, s);
     }
     if 8 <= pending {
-        return Code {
-            encoding: pending % 8,
-            pending: 0,
-            stream: s,
-            lost: false,
-        };
+        return Code::Next(pending % 8, 0, s);
     }
     let c = s.cursor;
     let d = filled(seg, c);
-    let t = quick_symbol(lookup, sorted, seg, ps, 0, d);
-    let cursor = t.cursor;
-    let v = t.number;
-    let unfound = t.lost;
+    let Step::Drawn(cursor, v, _) = quick_symbol(lookup, sorted, seg, ps, 0, d) else {
+        return Code::Lost;
+    };
+    if 1024 <= v {
+        return Code::Lost;
+    }
     let stream = Stream {
         cursor,
         blamed: place(seg, d),
         left: s.left - 1,
     };
-    Code {
-        encoding: (v % 8) as u32,
-        pending: (64 + v / 8 % 64) as u32,
-        stream,
-        lost: unfound | (1024 <= v),
-    }
-}
-
-fn no_chunk(r: Carried, s: Stream) -> QuickChunk
-    ensures { λ a. ⌜ a .lost ≡ true ⌝ }
-{
-    QuickChunk {
-        encoding: 0,
-        carried: r,
-        stream: s,
-        lost: true,
-    }
+    Code::Next((v % 8) as u32, (64 + v / 8 % 64) as u32, stream)
 }
 
 // A chunk by the quick way.
@@ -559,34 +420,24 @@ fn quick_read(
     ensures { λ a. ⌜ QuickReads (now (lookup .entry)) (now (sorted .entry)) (now (seg .entry)) ps r s (now (out .exit)) a ⌝ }
 {
     if s.left < 17 {
-        return no_chunk(r, s);
+        return QuickChunk::Lost;
     }
-    let e = quick_code(lookup, sorted, seg, ps, r.pending, s);
-    let t = e.stream;
-    let uncoded = e.lost;
-    if uncoded {
-        return no_chunk(r, s);
-    }
-    let n = tile_count(e.encoding) as usize;
-    let q = quick_chunk(lookup, sorted, seg, ps, n, r, t, out);
-    let after = q.stream;
-    let lost = q.lost;
-    if lost {
-        return no_chunk(r, s);
-    }
-    let next = Carried {
-        pending: e.pending,
-        e0: q.e0,
-        e1: q.e1,
-        s0: q.s0,
-        s1: q.s1,
+    let Code::Next(encoding, pending, t) = quick_code(lookup, sorted, seg, ps, r.pending, s) else {
+        return QuickChunk::Lost;
     };
-    QuickChunk {
-        encoding: e.encoding,
-        carried: next,
-        stream: after,
-        lost: false,
-    }
+    let n = tile_count(encoding) as usize;
+    let Quick::Indices(e0, e1, s0, s1, after) = quick_chunk(lookup, sorted, seg, ps, n, r, t, out)
+    else {
+        return QuickChunk::Lost;
+    };
+    let next = Carried {
+        pending,
+        e0,
+        e1,
+        s0,
+        s1,
+    };
+    QuickChunk::Chunk(encoding, next, after)
 }
 
 // A chunk, as `crn_chunks::read_chunk` reads it. What that call takes is copied where it is made, so that the rest stays in registers.
@@ -604,9 +455,8 @@ pub fn read_chunk(
     requires { ⌜ length (now seg) < tooLong ⌝ ∗ ⌜ Served ps (now lookup) (now sorted) ⌝ ∗ ⌜ Onward (now seg) r s ⌝ }
     ensures { λ a. ⌜ Reads (now (lookup .entry)) (now (sorted .entry)) (now (seg .entry)) ps right bottom r s (now (out .exit)) a ⌝ }
 {
-    let q = quick_read(lookup, sorted, seg, ps, r, s, out);
-    let lost = q.lost;
-    if lost {
+    let QuickChunk::Chunk(encoding, next, after) = quick_read(lookup, sorted, seg, ps, r, s, out)
+    else {
         let lookups = lookup;
         let sorteds = sorted;
         let segment = seg;
@@ -624,8 +474,6 @@ pub fn read_chunk(
             stream,
             out,
         );
-    }
-    let next = q.carried;
-    let after = q.stream;
-    Chunked::Read(q.encoding, next, after)
+    };
+    Chunked::Read(encoding, next, after)
 }

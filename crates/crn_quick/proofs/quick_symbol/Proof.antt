@@ -3,7 +3,6 @@ use native.Mathlib.Omega.{arith}
 use Rattle.crn_symbol_codec.specs.Decoders.{Usable, Decodes}
 use Rattle.crn_chunks.proofs.Drawing.{lookup-end, sorted-end, in-slices}
 use Rattle.crn_quick.proofs.Stepping.{code-short, found}
-use Rattle.crn_quick.proofs.Joining.{never}
 use Rattle.crn_quick.proofs.quick_symbol.Statement.{statement}
 use Rattle.crn_quick.proofs.quick_symbol.Tie as tie
 
@@ -19,11 +18,8 @@ add-end c = omega (arith, c .before .before .before .before .before .before .goo
 add-last : tie.Need-add-last
 add-last c = omega (arith, c .before .before .before .before .before .before .before .good .1 .0 .0, sorted-end (c .before .before .before .before .before .before .before .pre .0 .served) (c .before .before .before .before .before .before .before .pre .1))
 
-no-step-requires : tie.Need-no-step-requires
-no-step-requires c κs = tt
-
 returns : tie.Need-returns
-returns c = record { drawn = λ z. never (c .no-step .ensures) z; passed = λ z. never (c .no-step .ensures) z }
+returns c = tt
 
 mul-entry : tie.Need-mul-entry
 mul-entry c = omega (arith, c .before .before .before .before .before .before .before .before .good .0 .1, lookup-end (c .before .before .before .before .before .before .before .before .pre .0 .served) (c .before .before .before .before .before .before .before .before .pre .1))
@@ -54,11 +50,8 @@ entry-requires c κs =
     let st = c .before .before .before .before .before .before .before .before .before .before in
     in-slices Usable (st .args .ps) (st .args .lookup .now) (st .args .sorted .now) (st .args .which) (st .pre .0 .served .coded (st .args .which) (st .pre .1) .usable)
 
-no-step-requires-2 : tie.Need-no-step-requires-2
-no-step-requires-2 c κs = tt
-
 returns-2 : tie.Need-returns-2
-returns-2 c = record { drawn = λ z. never (c .no-step2 .ensures) z; passed = λ z. never (c .no-step2 .ensures) z }
+returns-2 c = tt
 
 cast-length : tie.Need-cast-length
 cast-length c = omega arith
@@ -97,7 +90,6 @@ quick-symbol-spec =
     mul-first
     add-end
     add-last
-    no-step-requires
     returns
     mul-entry
     sub-entry
@@ -108,7 +100,6 @@ quick-symbol-spec =
     part-entry-start-2
     part-entry-end-2
     entry-requires
-    no-step-requires-2
     returns-2
     cast-length
     shl-t29
