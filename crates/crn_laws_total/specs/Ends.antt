@@ -136,10 +136,12 @@ pub record SeveralEnds (r : Record) (file : List ℕ) (p : Palettes) (n budget l
   pub drawn : left + s .symbols ≡ budget
   pub counted : s .cutouts ≡ sumOf (s .levels) cutouts
   pub accepted : s .refusal ≡ 0
-      → (n + s .levels ≡ r .header .levels) × ((behind (r .header) n (s .levels) a ≡ behind (r .header) n (s .levels) b) × ((s .at ≡ 0) × (tried ≡ 0)))
+      → (n + s .levels ≡ r .header .levels) × ((behind (r .header) n (s .levels) a ≡ behind (r .header) n (s .levels) b)
+      × ((s .at ≡ 0) × (tried ≡ 0)))
   pub refusing : (s .refusal ≡ 0 → ⊥)
       → closely r file p (n + s .levels) (budgets (s .levels)) (behind (r .header) n (s .levels) b)
       ≡ declined (s .refusal) tried (s .at) (behind (r .header) n (s .levels) a)
   pub refused : (s .refusal ≡ 0 → ⊥)
-      → Declined r (levelSegment file (r .header) (n + s .levels)) (gridAt (r .header) (n + s .levels)) (budgets (s .levels)) (s .refusal) tried (s .at)
+      → Declined r (levelSegment file (r .header) (n + s .levels)) (gridAt (r .header) (n + s .levels)) (budgets (s .levels)) (s .refusal)
+      tried (s .at)
       (behind (r .header) n (s .levels) b) (behind (r .header) n (s .levels) a)

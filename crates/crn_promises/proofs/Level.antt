@@ -36,12 +36,14 @@ module _ (v : Given) (ds : List Draws) where
       → standing (gridIn v) (painted (gridIn v) (blocksBy v ds) (gridIn v .faces) (v .destination)) f x y ≡ blocksBy v ds f x y
   block-stands c =
       stands (blocksBy v ds)
-      (painted-leaves (v .destination) room (blocksBy v ds) (λ f x y _. blocks-long v ds f x y) (λ f x y k. getD (blocksBy v ds f x y) k 0) (λ f x y k _. refl))
+      (painted-leaves (v .destination) room (blocksBy v ds) (λ f x y _. blocks-long v ds f x y) (λ f x y k. getD (blocksBy v ds f x y) k 0)
+      (λ f x y k _. refl))
       (λ f x y _. blocks-long v ds f x y)
     where
       room : Room (gridIn v) (length (v .destination))
       room =
-          has-room (v .opened) (v .file) (v .palettes) (v .number) (v .pitch) (v .distance) 0 (v .destination) (c .limits) (c .tables) (lt-ltb _ _ (c .number)) (c .segment)
+          has-room (v .opened) (v .file) (v .palettes) (v .number) (v .pitch) (v .distance) 0 (v .destination) (c .limits) (c .tables)
+          (lt-ltb _ _ (c .number)) (c .segment)
           (c .palettes) (c .grid) (le-leb _ _ (c .room))
 
 -- ---- the call
@@ -56,17 +58,22 @@ same-symbols : (a : Unpacked) → flat a .symbols ≡ symbolsOf a
 same-symbols (Blocks symbols cutouts) = refl
 same-symbols (Refused number symbols bit) = refl
 
-pub level-same : (c : LevelCall) (a : Unpacked) → c .answer ≡ flat a → Unpacks (unpackingIn (c .given) (c .budget)) (c .budget) (c .left) (c .after) a → LevelSame c
+pub level-same : (c : LevelCall) (a : Unpacked) → c .answer ≡ flat a
+    → Unpacks (unpackingIn (c .given) (c .budget)) (c .budget) (c .left) (c .after) a → LevelSame c
 level-same c a is u =
     let same = same-answer a (c .after) (u .answer) in
     record { answer = is ∙ same .0; leaves = same .1; spent = omega (arith, u .spent, same-symbols a, ap (λ (x : Answer). x .symbols) is) }
 
 module _ (c : LevelCall) where
   abbrev Ends : Unpacking → Type 0
-  Ends = LevelEnds (c .given .opened) (c .given .file) (c .given .palettes) (c .given .number) (c .given .pitch) (c .given .distance) (c .budget) (c .given .destination)
+  Ends =
+      LevelEnds (c .given .opened) (c .given .file) (c .given .palettes) (c .given .number) (c .given .pitch) (c .given .distance)
+      (c .budget) (c .given .destination)
 
   ends : Ends (unpackingIn (c .given) (c .budget))
-  ends = level-ends (c .given .opened) (c .given .file) (c .given .palettes) (c .given .number) (c .given .pitch) (c .given .distance) (c .budget) (c .given .destination)
+  ends =
+      level-ends (c .given .opened) (c .given .file) (c .given .palettes) (c .given .number) (c .given .pitch) (c .given .distance)
+      (c .budget) (c .given .destination)
 
   module _ (s : LevelSame c) where
     by-ends : (u : Unpacking) → Ends u → c .answer ≡ answerIn u → c .after ≡ afterIn u → LevelTotal c

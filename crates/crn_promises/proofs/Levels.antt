@@ -44,7 +44,8 @@ sum-less zero f g h = omega arith
 sum-less (suc n) f g h = omega (arith, h 0 (omega arith), sum-less n (λ i. f (suc i)) (λ i. g (suc i)) (λ k l. h (suc k) (omega arith)))
 
 -- a budget counted down level by level
-counted-down : (n : ℕ) (budgets symbols : ℕ → ℕ) → ((k : ℕ) → k < n → budgets (suc k) + symbols k ≡ budgets k) → budgets n + sumOf n symbols ≡ budgets 0
+counted-down : (n : ℕ) (budgets symbols : ℕ → ℕ) → ((k : ℕ) → k < n → budgets (suc k) + symbols k ≡ budgets k)
+    → budgets n + sumOf n symbols ≡ budgets 0
 counted-down zero budgets symbols h = omega arith
 counted-down (suc n) budgets symbols h =
     omega (arith, h 0 (omega arith), counted-down n (λ i. budgets (suc i)) (λ i. symbols (suc i)) (λ k l. h (suc k) (omega arith)))
@@ -54,7 +55,8 @@ counted-down (suc n) budgets symbols h =
 module _ (r : Record) (file : List ℕ) (p : Palettes) where
   -- the k-th level from n on in its own bytes; level n with all that is lent
   abbrev at : ℕ → ℕ → List ℕ → Given
-  at n k d = givenBy r file p (n + k) (levelSizes (r .header) (n + k) .pitch) (levelSizes (r .header) (n + k) .distance) (ownOf (r .header) n k d)
+  at n k d =
+      givenBy r file p (n + k) (levelSizes (r .header) (n + k) .pitch) (levelSizes (r .header) (n + k) .distance) (ownOf (r .header) n k d)
 
   abbrev whole : ℕ → List ℕ → Given
   whole n d = givenBy r file p n (levelSizes (r .header) n .pitch) (levelSizes (r .header) n .distance) d
@@ -69,7 +71,8 @@ module _ (r : Record) (file : List ℕ) (p : Palettes) where
   next-own n k d e is =
       let number : n + suc k ≡ n + 1 + k = omega arith in
       let rest : behind (r .header) n (suc k) d ≡ behind (r .header) (n + 1) k e =
-      sym (drop-drop (bytesOf (r .header) (n + 1) k) (levelSizes (r .header) n .bytes) d) ∙ ap (drop (bytesOf (r .header) (n + 1) k)) (sym is) in
+      sym (drop-drop (bytesOf (r .header) (n + 1) k) (levelSizes (r .header) n .bytes) d)
+      ∙ ap (drop (bytesOf (r .header) (n + 1) k)) (sym is) in
       λ i. whole (number i) (take (levelSizes (r .header) (number i) .bytes) (rest i))
 
   -- bytes behind its own change nothing
@@ -88,15 +91,18 @@ module _ (r : Record) (file : List ℕ) (p : Palettes) where
   abbrev long : List Draws → ℕ
   long ds = length (symbolsOf (whole 0 []) ds)
 
-  all-through : (n : ℕ) (f : Far) (dst : List ℕ) (scripts : ℕ → List Draws) → f .from ≤ length dst → ((k : ℕ) → k < n → Passes (at (f .level) k (drop (f .from) dst)))
+  all-through : (n : ℕ) (f : Far) (dst : List ℕ) (scripts : ℕ → List Draws) → f .from ≤ length dst
+      → ((k : ℕ) → k < n → Passes (at (f .level) k (drop (f .from) dst)))
       → ((k : ℕ) → k < n → ScriptOf (at (f .level) k (drop (f .from) dst)) (scripts k)) → sumOf n (λ k. long (scripts k)) ≤ f .left
       → severalFrom n r file p f dst .answer .refusal ≡ 0
   unfolding severalFrom onward
   all-through zero f dst scripts fits passes has paid = refl
   all-through (suc n) f dst scripts fits passes has paid =
       rw is
-      (all-through n on put (λ k. scripts (suc k)) on-fits (λ k h. subst Passes (next-own (f .level) k d (drop (on .from) put) rest) (passes (suc k) (omega arith)))
-      (λ k h. subst (λ (v : Given). ScriptOf v (scripts (suc k))) (next-own (f .level) k d (drop (on .from) put) rest) (has (suc k) (omega arith)))
+      (all-through n on put (λ k. scripts (suc k)) on-fits (λ k h. subst Passes (next-own (f .level) k d (drop (on .from) put) rest)
+      (passes (suc k) (omega arith)))
+      (λ k h. subst (λ (v : Given). ScriptOf v (scripts (suc k))) (next-own (f .level) k d (drop (on .from) put) rest)
+      (has (suc k) (omega arith)))
       (omega arith))
     where
       d : List ℕ
@@ -141,7 +147,8 @@ module _ (r : Record) (file : List ℕ) (p : Palettes) where
 
       rest : drop (on .from) put ≡ drop bytes d
       rest =
-          sym (drop-drop bytes (f .from) put) ∙ ap (drop bytes) (drop-at (take (f .from) dst) after (f .from) (length-take-le (f .from) dst fits))
+          sym (drop-drop bytes (f .from) put) ∙ ap (drop bytes)
+          (drop-at (take (f .from) dst) after (f .from) (length-take-le (f .from) dst fits))
           ∙ behind-same bytes (lies-low r file p (f .level) (f .left) d is) (accepted-so r file p (f .level) (f .left) d is .leaves)
 
   -- where all are accepted, the first is there
@@ -150,7 +157,8 @@ module _ (r : Record) (file : List ℕ) (p : Palettes) where
   first-there first budget dst z = by (closely r file p first budget dst) refl z
     where
       by : (u : Unpacking) → closely r file p first budget dst ≡ u
-          → onward (begun first budget) (levelSizes (r .header) first .bytes) dst (severalFrom (r .header .levels - suc first) r file p) u .answer .refusal ≡ 0
+          → onward (begun first budget) (levelSizes (r .header) first .bytes) dst (severalFrom (r .header .levels - suc first) r file p) u
+          .answer .refusal ≡ 0
           → first < r .header .levels
       by (unpacked s c e) is z = ltb-true first (r .header .levels) (passed r file p first budget dst is .number)
       by (declined k s bit e) is z = absurd (not-zero levelRefusals refl (declined-so r file p first budget dst is .number) z)
@@ -170,7 +178,8 @@ module _ (c : LevelsCall) (s : LevelsSame c) where
       let all : suc (c .opened .header .levels - suc (c .first)) ≡ c .opened .header .levels - c .first = omega (arith, q .there) in
       refusal-so
       ∙ rw all
-      (all-through (c .opened) (c .file) (c .palettes) (countFrom c) (begun (c .first) (c .budget)) (c .destination) scripts (omega arith) (q .passes) (q .script) (q .paid))
+      (all-through (c .opened) (c .file) (c .palettes) (countFrom c) (begun (c .first) (c .budget)) (c .destination) scripts (omega arith)
+      (q .passes) (q .script) (q .paid))
 
   -- as many as the file has from the first on
   module _ (z : c .answer .refusal ≡ 0) where
@@ -199,7 +208,8 @@ module _ (c : LevelsCall) (s : LevelsSame c) where
     abbrev scripts : ℕ → List Draws
     scripts k = choose k (decLe (suc k) (countFrom c))
 
-    all-scripted : c .first < c .opened .header .levels → sumOf (countFrom c) (λ k. allowed (levelOf c k)) ≤ c .budget → AllScripted c scripts
+    all-scripted : c .first < c .opened .header .levels → sumOf (countFrom c) (λ k. allowed (levelOf c k)) ≤ c .budget
+        → AllScripted c scripts
     all-scripted there full =
         record {
           there = there;
@@ -229,7 +239,8 @@ module _ (c : LevelsCall) (s : LevelsSame c) where
     module _ (k : ℕ) (h : k < countFrom c) where
       both : unpacked (levels-total .symbols k) (levels-total .cutouts k) (ownOf (c .opened .header) (c .first) k (c .after))
           ≡ unpacked (lengthOf c scripts k) (cutoutsOf c scripts k)
-          (painted (gridIn (levelOf c k)) (blocksBy (levelOf c k) (scripts k)) (gridIn (levelOf c k) .faces) (ownOf (c .opened .header) (c .first) k (c .destination)))
+          (painted (gridIn (levelOf c k)) (blocksBy (levelOf c k) (scripts k)) (gridIn (levelOf c k) .faces)
+          (ownOf (c .opened .header) (c .first) k (c .destination)))
       both =
           sym (levels-total .calls k (omega (arith, as-many z)))
           ∙ blocks-by-script (levelOf c k) (q .passes k h) (scripts k) (q .script k h) (levels-total .budgets k) (pays k h)
@@ -241,7 +252,8 @@ module _ (c : LevelsCall) (s : LevelsSame c) where
       cutouts-so = cc both
 
       leaves-so : ownOf (c .opened .header) (c .first) k (c .after)
-          ≡ painted (gridIn (levelOf c k)) (blocksBy (levelOf c k) (scripts k)) (gridIn (levelOf c k) .faces) (ownOf (c .opened .header) (c .first) k (c .destination))
+          ≡ painted (gridIn (levelOf c k)) (blocksBy (levelOf c k) (scripts k)) (gridIn (levelOf c k) .faces)
+          (ownOf (c .opened .header) (c .first) k (c .destination))
       leaves-so = cc both
 
     all-by-script : AllByScript c scripts
@@ -252,10 +264,12 @@ module _ (c : LevelsCall) (s : LevelsSame c) where
         let down : t .budgets (countFrom c) + sumOf (countFrom c) (t .symbols) ≡ t .budgets 0 =
         counted-down (countFrom c) (t .budgets) (t .symbols) (λ k h. t .spent k (omega (arith, many))) in
         let last : c .left + t .tried ≡ t .budgets (countFrom c) = t .last ∙ ap (t .budgets) many in
-        let symbols : sumOf (countFrom c) (t .symbols) ≡ sumOf (countFrom c) (lengthOf c scripts) = sum-same (countFrom c) (t .symbols) (lengthOf c scripts) symbols-so in
+        let symbols : sumOf (countFrom c) (t .symbols) ≡ sumOf (countFrom c) (lengthOf c scripts) = sum-same (countFrom c) (t .symbols)
+        (lengthOf c scripts) symbols-so in
         let cut : c .answer .cutouts ≡ sumOf (countFrom c) (cutoutsOf c scripts) =
         t .counted ∙ ap (λ (n : ℕ). sumOf n (t .cutouts)) many ∙ sum-same (countFrom c) (t .cutouts) (cutoutsOf c scripts) cutouts-so in
-        let drawn : c .answer .symbols ≡ sumOf (countFrom c) (lengthOf c scripts) = omega (arith, t .drawn, t .given, end .1 .1 .1, down, last, symbols) in
+        let drawn : c .answer .symbols ≡ sumOf (countFrom c) (lengthOf c scripts) = omega
+        (arith, t .drawn, t .given, end .1 .1 .1, down, last, symbols) in
         record {
           answer = λ i. record { refusal = z i; at = end .1 .1 .0 i; levels = many i; symbols = drawn i; cutouts = cut i };
           spent = omega (arith, t .drawn, drawn);

@@ -27,7 +27,11 @@ three h false b c = record { found-it = λ z. absurd (omega arith); number = inr
 
 pub look-total : (file : List ℕ) (a : Looked) → a ≡ lookOf file → LookTotal file a
 look-total file a is =
-    rw is (record { number = n .number; accepted = n .found-it; refused = λ f. (n .other f, (λ lent. look-refuses file lent (omega arith))) })
+    rw is (record {
+      number = n .number;
+      accepted = n .found-it;
+      refused = λ f. (n .other f, (λ lent. look-refuses file lent (omega arith)));
+    })
   where
     n : Numbered (headerOf file) (lookOf file)
     n = unfold lookOf in three (headerOf file) (signed file) (withinLimits (headerOf file)) (sizesHold file (headerOf file))

@@ -121,7 +121,13 @@ holds ls g =
 tables-hold : (t : Lengths) → Goods t → tablesHold (tablesOf t) ≡ true
 unfolding tablesHold tablesOf
 tables-hold t g =
-    simp (holds (t .chunk) (g .chunk), holds (t .colorEnds) (g .colorEnds), holds (t .colorSels) (g .colorSels), holds (t .alphaEnds) (g .alphaEnds), holds (t .alphaSels) (g .alphaSels))
+    simp (
+      holds (t .chunk) (g .chunk),
+      holds (t .colorEnds) (g .colorEnds),
+      holds (t .colorSels) (g .colorSels),
+      holds (t .alphaEnds) (g .alphaEnds),
+      holds (t .alphaSels) (g .alphaSels),
+    )
 
 -- ---- through the streams: what holds of every refusal there and of what is opened in the end
 
@@ -129,13 +135,15 @@ tables-hold t g =
 abbrev ok : ℕ → Bool
 ok n = among n inStreams
 
-module _ (file : List ℕ) (lent : Palettes) (h : Header) (P : Opening → Type 0) (no : (n bit : ℕ) (after : Palettes) → among n inStreams ≡ true → P (shut n bit after)) where
+module _ (file : List ℕ) (lent : Palettes) (h : Header) (P : Opening → Type 0)
+    (no : (n bit : ℕ) (after : Palettes) → among n inStreams ≡ true → P (shut n bit after)) where
   on : {A : Type 0} (s : Step Place A) (k : A → Opening) → Stops ok s → ((a : A) (w : Place) → s ≡ got a w → P (k a)) → P (onward lent s k)
   unfolding onward
   on (got a w) k stops g = g a w refl
   on (refused n w) k stops g = no n _ _ stops
 
-  palette : (there : Bool) (p : Part) (reading : ℕ → Reading (List ℕ)) (b : List ℕ) (k : List ℕ → Opening) → Refuses ok (reading (p .count)) → ((a : List ℕ) → P (k a))
+  palette : (there : Bool) (p : Part) (reading : ℕ → Reading (List ℕ)) (b : List ℕ) (k : List ℕ → Opening)
+      → Refuses ok (reading (p .count)) → ((a : List ℕ) → P (k a))
       → P (paletteIn file lent there p reading b k)
   unfolding paletteIn
   palette true p reading b k refuses g =
@@ -145,27 +153,35 @@ module _ (file : List ℕ) (lent : Palettes) (h : Header) (P : Opening → Type 
 
   -- what is left to do after the tables and so many palettes
   abbrev after-four : Lengths → List ℕ → List ℕ → List ℕ → List ℕ → Opening
-  after-four t ce cs ae al = opened (record { header = h; tables = tablesOf t }) (record { colorEnds = ce; colorSels = cs; alphaEnds = ae; alphaSels = al })
+  after-four t ce cs ae al =
+      opened (record { header = h; tables = tablesOf t }) (record { colorEnds = ce; colorSels = cs; alphaEnds = ae; alphaSels = al })
 
   abbrev after-three : Lengths → List ℕ → List ℕ → List ℕ → Opening
-  after-three t ce cs ae = paletteIn file lent (present (h .«alpha_endpoints»)) (h .«alpha_selectors») alphaSelectors (lent .alphaSels) (after-four t ce cs ae)
+  after-three t ce cs ae =
+      paletteIn file lent (present (h .«alpha_endpoints»)) (h .«alpha_selectors») alphaSelectors (lent .alphaSels) (after-four t ce cs ae)
 
   abbrev after-two : Lengths → List ℕ → List ℕ → Opening
-  after-two t ce cs = paletteIn file lent (present (h .«alpha_endpoints»)) (h .«alpha_endpoints») alphaEndpoints (lent .alphaEnds) (after-three t ce cs)
+  after-two t ce cs =
+      paletteIn file lent (present (h .«alpha_endpoints»)) (h .«alpha_endpoints») alphaEndpoints (lent .alphaEnds) (after-three t ce cs)
 
   abbrev after-one : Lengths → List ℕ → Opening
-  after-one t ce = paletteIn file lent (present (h .«color_endpoints»)) (h .«color_selectors») colorSelectors (lent .colorSels) (after-two t ce)
+  after-one t ce =
+      paletteIn file lent (present (h .«color_endpoints»)) (h .«color_selectors») colorSelectors (lent .colorSels) (after-two t ce)
 
   abbrev after-tables : Lengths → Opening
-  after-tables t = paletteIn file lent (present (h .«color_endpoints»)) (h .«color_endpoints») colorEndpoints (lent .colorEnds) (after-one t)
+  after-tables t =
+      paletteIn file lent (present (h .«color_endpoints»)) (h .«color_endpoints») colorEndpoints (lent .colorEnds) (after-one t)
 
-  through : ((t : Lengths) → Goods t → (after : Palettes) → P (opened (record { header = h; tables = tablesOf t }) after)) → P (streams file lent h)
+  through : ((t : Lengths) → Goods t → (after : Palettes) → P (opened (record { header = h; tables = tablesOf t }) after))
+      → P (streams file lent h)
   unfolding streams
   through g =
       on (run (fromBits (segment file (h .«tables_offset») (h .«tables_size»))) (sentTables h) start) after-tables
       (bits-stop ok refl refl (segment file (h .«tables_offset») (h .«tables_size»)) (sentTables h) (tables-refuse ok refl h) start)
-      (λ t w e. let good : Goods t = run-all (fromBits (segment file (h .«tables_offset») (h .«tables_size»))) Goods (sentTables h) (sent-good h) start e in
-      palette (present (h .«color_endpoints»)) (h .«color_endpoints») colorEndpoints (lent .colorEnds) (after-one t) (color-endpoints ok refl (h .«color_endpoints» .count))
+      (λ t w e. let good : Goods t = run-all (fromBits (segment file (h .«tables_offset») (h .«tables_size»))) Goods (sentTables h)
+      (sent-good h) start e in
+      palette (present (h .«color_endpoints»)) (h .«color_endpoints») colorEndpoints (lent .colorEnds) (after-one t)
+      (color-endpoints ok refl (h .«color_endpoints» .count))
       (λ ce. palette (present (h .«color_endpoints»)) (h .«color_selectors») colorSelectors (lent .colorSels) (after-two t ce)
       (color-selectors ok refl (h .«color_selectors» .count) refl)
       (λ cs. palette (present (h .«alpha_endpoints»)) (h .«alpha_endpoints») alphaEndpoints (lent .alphaEnds) (after-three t ce cs)
@@ -190,13 +206,15 @@ opening-kept file lent = by (signed file) (withinLimits h) (sizesHold file h) (s
     h = headerOf file
 
     by : (a b c d e : Bool) → withinLimits h ≡ b
-        → Kept e (pick a (pick b (pick c (pick d (pick e (streams file lent h) (shut 5 0 lent)) (shut 4 0 lent)) (shut 3 0 lent)) (shut 2 0 lent)) (shut 1 0 lent))
+        → Kept e (pick a (pick b (pick c (pick d (pick e (streams file lent h) (shut 5 0 lent)) (shut 4 0 lent)) (shut 3 0 lent))
+        (shut 2 0 lent)) (shut 1 0 lent))
     by false b c d e is = λ _ z. omega arith
     by true false c d e is = λ _ z. omega arith
     by true true false d e is = λ _ z. omega arith
     by true true true false e is = λ _ z. omega arith
     by true true true true false is = λ no _. false≢true no
-    by true true true true true is = through file lent h (Kept true) (λ n bit after stops _. not-five n stops) (λ t g after. (is, tables-hold t g))
+    by true true true true true is =
+        through file lent h (Kept true) (λ n bit after stops _. not-five n stops) (λ t g after. (is, tables-hold t g))
 
 -- ---- the palettes
 
@@ -208,7 +226,8 @@ need true m n h = le-leb m n (h refl)
 need false m n h = refl
 
 module _ (h : Header) (lent after : Palettes) (within : withinLimits h ≡ true) (o : Open h lent after) where
-  entries : (entriesFit (hasColor (kindOf (h .format))) (h .«color_endpoints») ≡ true) × (entriesFit (hasAlpha (kindOf (h .format))) (h .«alpha_endpoints») ≡ true)
+  entries : (entriesFit (hasColor (kindOf (h .format))) (h .«color_endpoints») ≡ true)
+      × (entriesFit (hasAlpha (kindOf (h .format))) (h .«alpha_endpoints») ≡ true)
   unfolding withinLimits
   entries =
       let p0 = both-hold (between 1 maxSide (h .width)) _ within in
@@ -228,10 +247,14 @@ module _ (h : Header) (lent after : Palettes) (within : withinLimits h ≡ true)
   unfolding palettesReach
   reaches =
       simp (
-        need colored (h .«color_endpoints» .count) (length (after .colorEnds)) (λ is. room (o .color .first (used colored (h .«color_endpoints») (entries .0) is))),
-        need colored (h .«color_selectors» .count) (length (after .colorSels)) (λ is. room (o .color .second (used colored (h .«color_endpoints») (entries .0) is))),
-        need masked (h .«alpha_endpoints» .count) (length (after .alphaEnds)) (λ is. room (o .alpha .first (used masked (h .«alpha_endpoints») (entries .1) is))),
-        need masked (3 * h .«alpha_selectors» .count) (length (after .alphaSels)) (λ is. room (o .alpha .second (used masked (h .«alpha_endpoints») (entries .1) is))),
+        need colored (h .«color_endpoints» .count) (length (after .colorEnds))
+            (λ is. room (o .color .first (used colored (h .«color_endpoints») (entries .0) is))),
+        need colored (h .«color_selectors» .count) (length (after .colorSels))
+            (λ is. room (o .color .second (used colored (h .«color_endpoints») (entries .0) is))),
+        need masked (h .«alpha_endpoints» .count) (length (after .alphaEnds))
+            (λ is. room (o .alpha .first (used masked (h .«alpha_endpoints») (entries .1) is))),
+        need masked (3 * h .«alpha_selectors» .count) (length (after .alphaSels))
+            (λ is. room (o .alpha .second (used masked (h .«alpha_endpoints») (entries .1) is))),
       )
     where
       colored : Bool
@@ -260,12 +283,15 @@ module _ (c : OpenCall) (s : OpenSame c) where
   pub open-total : OpenTotal c
   open-total = by-ends (opening (c .file) (c .lent)) (opening-ends (c .file) (c .lent)) (s .answer) (s .leaves)
 
-  by-kept : (o : Opening) → Kept (roomFor (headerOf (c .file)) (c .lent)) o → OpeningEnds (c .lent) o → c .answer ≡ toOpened o → c .after ≡ buffersOf o → OpenReady c
-  by-kept (opened r kept) b e p q = λ z. rw (p, q) (record { limits = b .0; tables = b .1; palettes = reaches (r .header) (c .lent) kept (b .0) e })
+  by-kept : (o : Opening) → Kept (roomFor (headerOf (c .file)) (c .lent)) o → OpeningEnds (c .lent) o → c .answer ≡ toOpened o
+      → c .after ≡ buffersOf o → OpenReady c
+  by-kept (opened r kept) b e p q =
+      λ z. rw (p, q) (record { limits = b .0; tables = b .1; palettes = reaches (r .header) (c .lent) kept (b .0) e })
   by-kept (shut n bit kept) b e p q = λ z. absurd (not-zero openingRefusals refl (e .number) (sym (ap (λ (x : Opened). x .refusal) p) ∙ z))
 
   pub open-ready : OpenReady c
-  open-ready = by-kept (opening (c .file) (c .lent)) (opening-kept (c .file) (c .lent)) (opening-ends (c .file) (c .lent)) (s .answer) (s .leaves)
+  open-ready =
+      by-kept (opening (c .file) (c .lent)) (opening-kept (c .file) (c .lent)) (opening-ends (c .file) (c .lent)) (s .answer) (s .leaves)
 
   by-room : (o : Opening) → Kept true o → c .answer ≡ toOpened o → c .answer .refusal ≡ 5 → ⊥
   by-room (opened r kept) b p z = omega (arith, sym (ap (λ (x : Opened). x .refusal) p) ∙ z)
@@ -274,4 +300,5 @@ module _ (c : OpenCall) (s : OpenSame c) where
   pub open-told : OpenTold c
   open-told w =
       by-room (opening (c .file) (c .lent))
-      (rw (palettes-fit (headerOf (c .file)) (c .lent) (w .colorEnds) (w .colorSels) (w .alphaEnds) (w .alphaSels)) at (opening-kept (c .file) (c .lent))) (s .answer)
+      (rw (palettes-fit (headerOf (c .file)) (c .lent) (w .colorEnds) (w .colorSels) (w .alphaEnds) (w .alphaSels)) at
+      (opening-kept (c .file) (c .lent))) (s .answer)

@@ -54,7 +54,8 @@ pub unpack-level-by-total : Says unpack-level-by.Post (λ a r e. LevelTotal (lev
 unpack-level-by-total κ a r e p = level.level-total (levelByCall a r e) (level.level-same (levelByCall a r e) r refl p)
 
 pub crunch-unpack-level-parts-total : Says crunch-unpack-level-parts.Post (λ a r e. LevelTotal (levelPartsCall a r e))
-crunch-unpack-level-parts-total κ a r e p = level.level-total (levelPartsCall a r e) (level.level-same (levelPartsCall a r e) (p .told) (p .same) (p .unpacks))
+crunch-unpack-level-parts-total κ a r e p =
+    level.level-total (levelPartsCall a r e) (level.level-same (levelPartsCall a r e) (p .told) (p .same) (p .unpacks))
 
 pub unpack-levels-total : Says unpack-levels.Post (λ a r e. LevelsTotal (levelsCall a r e))
 unpack-levels-total κ a r e p = levels.levels-total (levelsCall a r e) p
@@ -101,7 +102,8 @@ pub unpack-level-by-exact : Says unpack-level-by.Post (λ a r e. LevelExact (lev
 unpack-level-by-exact κ a r e p = level.level-exact (levelByCall a r e) (level.level-same (levelByCall a r e) r refl p)
 
 pub crunch-unpack-level-parts-exact : Says crunch-unpack-level-parts.Post (λ a r e. LevelExact (levelPartsCall a r e))
-crunch-unpack-level-parts-exact κ a r e p = level.level-exact (levelPartsCall a r e) (level.level-same (levelPartsCall a r e) (p .told) (p .same) (p .unpacks))
+crunch-unpack-level-parts-exact κ a r e p =
+    level.level-exact (levelPartsCall a r e) (level.level-same (levelPartsCall a r e) (p .told) (p .same) (p .unpacks))
 
 pub unpack-levels-exact : Says unpack-levels.Post (λ a r e. LevelsExact (levelsCall a r e))
 unpack-levels-exact κ a r e p = levels.levels-exact (levelsCall a r e) p
@@ -128,7 +130,8 @@ pub unpack-level-by-ready : Says unpack-level-by.Post (λ a r e. LevelReady (lev
 unpack-level-by-ready κ a r e p = ready.level-ready (levelByCall a r e) (level.level-same (levelByCall a r e) r refl p)
 
 pub crunch-unpack-level-parts-ready : Says crunch-unpack-level-parts.Post (λ a r e. LevelReady (levelPartsCall a r e))
-crunch-unpack-level-parts-ready κ a r e p = ready.level-ready (levelPartsCall a r e) (level.level-same (levelPartsCall a r e) (p .told) (p .same) (p .unpacks))
+crunch-unpack-level-parts-ready κ a r e p =
+    ready.level-ready (levelPartsCall a r e) (level.level-same (levelPartsCall a r e) (p .told) (p .same) (p .unpacks))
 
 pub unpack-levels-ready : Says unpack-levels.Post (λ a r e. LevelsReady (levelsCall a r e))
 unpack-levels-ready κ a r e p = ready.levels-ready (levelsCall a r e) p
@@ -158,7 +161,8 @@ pub unpack-level-by-told : Says unpack-level-by.Post (λ a r e. LevelTold (level
 unpack-level-by-told κ a r e p = told.level-told (levelByCall a r e) (level.level-same (levelByCall a r e) r refl p)
 
 pub crunch-unpack-level-parts-told : Says crunch-unpack-level-parts.Post (λ a r e. LevelTold (levelPartsCall a r e))
-crunch-unpack-level-parts-told κ a r e p = told.level-told (levelPartsCall a r e) (level.level-same (levelPartsCall a r e) (p .told) (p .same) (p .unpacks))
+crunch-unpack-level-parts-told κ a r e p =
+    told.level-told (levelPartsCall a r e) (level.level-same (levelPartsCall a r e) (p .told) (p .same) (p .unpacks))
 
 pub unpack-levels-told : Says unpack-levels.Post (λ a r e. LevelsTold (levelsCall a r e))
 unpack-levels-told κ a r e p = told-all.levels-told (levelsCall a r e) p

@@ -36,7 +36,8 @@ module _ (r : Record) (file : List ℕ) (p : Palettes) (n pitch distance budget 
   abbrev g : Grid
   g = gridOf (r .header) n pitch distance
 
-  by-run : (y : Step Spending (List Chunk)) → Stops (λ m. among m inDraws) y → Not (ended (kindOf (r .header .format)) g (shadesOf (kindOf (r .header .format)) p) budget dst y)
+  by-run : (y : Step Spending (List Chunk)) → Stops (λ m. among m inDraws) y
+      → Not (ended (kindOf (r .header .format)) g (shadesOf (kindOf (r .header .format)) p) budget dst y)
   unfolding ended
   by-run (got cs w) stops = tt
   by-run (refused m w) stops = none-in-both m inDraws unready refl stops
@@ -46,7 +47,8 @@ module _ (r : Record) (file : List ℕ) (p : Palettes) (n pitch distance budget 
   in-stream =
       by-run (run (budgeted (fromBits (levelSegment file (r .header) n))) (levelReading r g) (record { place = start; left = budget }))
       (budget-stops (λ m. among m inDraws) refl refl (levelSegment file (r .header) n) refl (levelReading r g)
-      (level-refuses (λ m. among m inDraws) refl refl (lengthsOf (r .tables .«chunk_encoding»)) (planesOf r) (insides g 0 (chunkCount g))) (record { place = start; left = budget }))
+      (level-refuses (λ m. among m inDraws) refl refl (lengthsOf (r .tables .«chunk_encoding»)) (planesOf r) (insides g 0 (chunkCount g)))
+      (record { place = start; left = budget }))
 
   ready-not : Ready r p → Not (unpacking r file p n pitch distance budget dst)
   unfolding unpacking
@@ -55,7 +57,8 @@ module _ (r : Record) (file : List ℕ) (p : Palettes) (n pitch distance budget 
       (by (ltb n (r .header .levels)) (levelStands file (r .header) n) (gridFits g) (leb (reach g) (length dst)))
     where
       by : (a b c d : Bool)
-          → Not (pick a (pick b (pick c (pick d (drawnLevel r (levelSegment file (r .header) n) p g budget dst) (declined 12 0 0 dst)) (declined 11 0 0 dst)) (declined 4 0 0 dst)) (declined 10 0 0 dst))
+          → Not (pick a (pick b (pick c (pick d (drawnLevel r (levelSegment file (r .header) n) p g budget dst) (declined 12 0 0 dst))
+          (declined 11 0 0 dst)) (declined 4 0 0 dst)) (declined 10 0 0 dst))
       by false b c d = λ e. false≢true e
       by true false c d = λ e. false≢true e
       by true true false d = λ e. false≢true e
@@ -71,7 +74,8 @@ by-answer (declined number symbols bit after) h e = h e
 pub level-ready : (c : LevelCall) → LevelSame c → LevelReady c
 level-ready c s ready e =
     by-answer (unpackingIn (c .given) (c .budget))
-    (ready-not (c .given .opened) (c .given .file) (c .given .palettes) (c .given .number) (c .given .pitch) (c .given .distance) (c .budget) (c .given .destination) ready)
+    (ready-not (c .given .opened) (c .given .file) (c .given .palettes) (c .given .number) (c .given .pitch) (c .given .distance)
+    (c .budget) (c .given .destination) ready)
     (rw (s .answer) at e)
 
 pub levels-ready : (c : LevelsCall) → LevelsSame c → LevelsReady c

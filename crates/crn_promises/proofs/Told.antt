@@ -93,7 +93,16 @@ module _ (r : Record) (file : List ℕ) (p : Palettes) (n budget : ℕ) (dst : L
 
   passes : levelStands file (r .header) n ≡ true → Passes v
   passes e =
-      record { limits = ready .limits; tables = ready .tables; number = there; segment = e; palettes = ready .palettes; grid = fits; room = holds }
+      record {
+        limits = ready .limits;
+        tables = ready .tables;
+        number = there;
+        segment = e;
+        palettes = ready .palettes;
+        grid = fits;
+        room
+            = holds;
+      }
 
   not-15 : (e : levelStands file (r .header) n ≡ true) → RefusedBy 15 (unpackingIn v budget) → ⊥
   not-15 e is =
@@ -103,21 +112,38 @@ module _ (r : Record) (file : List ℕ) (p : Palettes) (n budget : ℕ) (dst : L
       omega (arith, t .few, told-allowed v c)
 
   by-run : (e : levelStands file (r .header) n ≡ true) (y : Step Spending (List Chunk))
-      → unpacking r file p n (z .pitch) (z .distance) budget dst ≡ ended (kindOf (r .header .format)) g (shadesOf (kindOf (r .header .format)) p) budget dst y
+      → unpacking r file p n (z .pitch) (z .distance) budget dst ≡ ended (kindOf (r .header .format)) g
+      (shadesOf (kindOf (r .header .format)) p) budget dst y
       → Stops (λ m. among m inDraws) y → Told (unpacking r file p n (z .pitch) (z .distance) budget dst)
   unfolding ended
   by-run e (got cs w) is stops = subst Told (sym is) tt
   by-run e (refused m w) is stops =
-      subst Told (sym is) (in-stream m stops (λ f. not-15 e (_, _, _, is ∙ ap (λ (k : ℕ). declined k (budget - w .left) (w .place .blamed) (painted g (blank g) (g .faces) dst)) f)))
+      subst Told (sym is) (in-stream m stops (λ f. not-15 e (
+        _,
+        _,
+        _,
+        is
+            ∙ ap (λ (k : ℕ). declined k (budget - w .left) (w .place .blamed) (painted g (blank g) (g .faces) dst)) f,
+      )))
 
   by-segment : (b : Bool) → levelStands file (r .header) n ≡ b → Told (unpacking r file p n (z .pitch) (z .distance) budget dst)
   unfolding drawnLevel
   by-segment true e =
       by-run e (run (budgeted (fromBits (levelSegment file (r .header) n))) (levelReading r g) (record { place = start; left = budget }))
       (passed-drawn r file p n (z .pitch) (z .distance) budget dst
-      (record { limits = ready .limits; tables = ready .tables; number = number; stands = e; palettes = ready .palettes; grid = fits; room = le-leb _ _ holds }))
+      (record {
+        limits = ready .limits;
+        tables = ready .tables;
+        number = number;
+        stands = e;
+        palettes = ready .palettes;
+        grid = fits;
+        room
+            = le-leb _ _ holds;
+      }))
       (budget-stops (λ m. among m inDraws) refl refl (levelSegment file (r .header) n) refl (levelReading r g)
-      (level-refuses (λ m. among m inDraws) refl refl (lengthsOf (r .tables .«chunk_encoding»)) (planesOf r) (insides g 0 (chunkCount g))) (record { place = start; left = budget }))
+      (level-refuses (λ m. among m inDraws) refl refl (lengthsOf (r .tables .«chunk_encoding»)) (planesOf r) (insides g 0 (chunkCount g)))
+      (record { place = start; left = budget }))
   by-segment false e = subst Told (sym is) refl
     where
       is : unpacking r file p n (z .pitch) (z .distance) budget dst ≡ declined 4 0 0 dst
@@ -135,7 +161,8 @@ by-told (declined number symbols bit after) t = inr t
 
 pub level-told : (c : LevelCall) → LevelSame c → LevelTold c
 level-told c s ready there e f room symbols =
-    rw (s .answer) (by-told (unpackingIn (c .given) (c .budget)) (subst Told (sym close) (told-enough r file p n budget dst ready there room symbols)))
+    rw (s .answer) (by-told (unpackingIn (c .given) (c .budget))
+    (subst Told (sym close) (told-enough r file p n budget dst ready there room symbols)))
   where
     r : Record
     r = c .given .opened
@@ -158,6 +185,8 @@ level-told c s ready there e f room symbols =
     z : LevelSizes
     z = levelSizes (r .header) n
 
-    close : unpacking r file p n (c .given .pitch) (c .given .distance) budget dst ≡ unpacking r file p n (z .pitch) (z .distance) budget dst
+    close : unpacking r file p n (c .given .pitch) (c .given .distance) budget dst ≡ unpacking r file p n (z .pitch) (z .distance) budget
+        dst
     close =
-        ap (λ (x : ℕ). unpacking r file p n x (c .given .distance) budget dst) e ∙ ap (λ (x : ℕ). unpacking r file p n (z .pitch) x budget dst) f
+        ap (λ (x : ℕ). unpacking r file p n x (c .given .distance) budget dst) e
+        ∙ ap (λ (x : ℕ). unpacking r file p n (z .pitch) x budget dst) f

@@ -44,7 +44,8 @@ abbrev Left : ℕ → Type 0
 Left refusal = (refusal ≡ 0) ⊎ (among refusal leftToRefuse ≡ true)
 
 -- a level that is accepted draws no more than is told for it
-few-drawn : (v : Given) (budget : ℕ) {s c : ℕ} {e : List ℕ} → levelSizes (v .opened .header) (v .number) .symbols ≤ budget → unpackingIn v budget ≡ unpacked s c e
+few-drawn : (v : Given) (budget : ℕ) {s c : ℕ} {e : List ℕ} → levelSizes (v .opened .header) (v .number) .symbols ≤ budget
+    → unpackingIn v budget ≡ unpacked s c e
     → s ≤ levelSizes (v .opened .header) (v .number) .symbols
 few-drawn v budget {s} {c} {e} h is =
     let p : Passes v = accepted-passes v budget (s, c, e, is) in
@@ -59,7 +60,9 @@ few-drawn v budget {s} {c} {e} h is =
 -- it leaves as many bytes as it was lent
 module _ (r : Record) (file : List ℕ) (p : Palettes) (n pitch distance budget : ℕ) (dst : List ℕ) where
   as-long : {s c : ℕ} {e : List ℕ} → unpacking r file p n pitch distance budget dst ≡ unpacked s c e → length e ≡ length dst
-  as-long is = subst (λ (x : Unpacking). LevelEnds r file p n pitch distance budget dst x) is (level-ends r file p n pitch distance budget dst) .leaves .long
+  as-long is =
+      subst (λ (x : Unpacking). LevelEnds r file p n pitch distance budget dst x) is (level-ends r file p n pitch distance budget dst)
+      .leaves .long
 
 module _ (r : Record) (file : List ℕ) (p : Palettes) (ready : Ready r p) where
   abbrev h : Header
@@ -71,18 +74,23 @@ module _ (r : Record) (file : List ℕ) (p : Palettes) (ready : Ready r p) where
   from zero f dst levels bytes symbols = inl refl
   from (suc n) f dst levels bytes symbols =
       by (λ g d a b c. from n g d a b c) (unpacking r file p (f .level) (z .pitch) (z .distance) (f .left) (drop (f .from) dst)) refl
-      (told-enough r file p (f .level) (f .left) (drop (f .from) dst) ready (omega arith) (omega (arith, length-drop (f .from) dst)) (omega arith))
+      (told-enough r file p (f .level) (f .left) (drop (f .from) dst) ready (omega arith) (omega (arith, length-drop (f .from) dst))
+      (omega arith))
     where
       z : LevelSizes
       z = levelSizes (r .header) (f .level)
 
-      by : ((g : Far) (d : List ℕ) → g .level + n ≤ r .header .levels → g .from + bytesOf (r .header) (g .level) n ≤ length d → symbolsFor (r .header) (g .level) n ≤ g .left
-          → Left (severalFrom n r file p g d .answer .refusal)) → (u : Unpacking) → unpacking r file p (f .level) (z .pitch) (z .distance) (f .left) (drop (f .from) dst) ≡ u → Told u
+      by : ((g : Far) (d : List ℕ) → g .level + n ≤ r .header .levels → g .from + bytesOf (r .header) (g .level) n ≤ length d
+          → symbolsFor (r .header) (g .level) n ≤ g .left
+          → Left (severalFrom n r file p g d .answer .refusal)) → (u : Unpacking)
+          → unpacking r file p (f .level) (z .pitch) (z .distance) (f .left) (drop (f .from) dst) ≡ u → Told u
           → Left (onward f (z .bytes) dst (severalFrom n r file p) u .answer .refusal)
       by ih (declined m s b rest) is t = inr t
       by ih (unpacked s c rest) is t =
-          let few : s ≤ z .symbols = few-drawn (givenBy r file p (f .level) (z .pitch) (z .distance) (drop (f .from) dst)) (f .left) (omega arith) is in
-          let long : length rest ≡ length (drop (f .from) dst) = as-long r file p (f .level) (z .pitch) (z .distance) (f .left) (drop (f .from) dst) is in
+          let few : s ≤ z .symbols = few-drawn (givenBy r file p (f .level) (z .pitch) (z .distance) (drop (f .from) dst)) (f .left)
+          (omega arith) is in
+          let long : length rest ≡ length (drop (f .from) dst) = as-long r file p (f .level) (z .pitch) (z .distance) (f .left)
+          (drop (f .from) dst) is in
           let all : length (take (f .from) dst ++ rest) ≡ length dst =
           omega (arith, length-append (take (f .from) dst) rest, length-take-le (f .from) dst (omega arith), length-drop (f .from) dst) in
           ih (further f (z .bytes) s c) (take (f .from) dst ++ rest) (omega arith) (omega arith) (omega arith)
@@ -94,4 +102,5 @@ levels-told c s ready there bytes symbols =
     let all : suc (c .opened .header .levels - suc (c .first)) ≡ c .opened .header .levels - c .first = omega arith in
     let told : symbolsFor (c .opened .header) (c .first) (c .opened .header .levels - c .first) ≤ c .budget =
     omega (arith, as-sum (c .opened .header) (c .first) (c .opened .header .levels - c .first)) in
-    rw (s .answer, all) (from (c .opened) (c .file) (c .palettes) ready (c .opened .header .levels - c .first) (begun (c .first) (c .budget)) (c .destination) (omega arith) (omega arith) told)
+    rw (s .answer, all) (from (c .opened) (c .file) (c .palettes) ready (c .opened .header .levels - c .first)
+    (begun (c .first) (c .budget)) (c .destination) (omega arith) (omega arith) told)

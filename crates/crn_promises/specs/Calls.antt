@@ -74,7 +74,8 @@ pub record LevelsCall : Type 0 where
 -- the k-th of them, given its own bytes, its rows and faces close together
 abbrev pub levelOf : LevelsCall → ℕ → Given
 levelOf c k =
-    givenBy (c .opened) (c .file) (c .palettes) (c .first + k) (levelSizes (c .opened .header) (c .first + k) .pitch) (levelSizes (c .opened .header) (c .first + k) .distance)
+    givenBy (c .opened) (c .file) (c .palettes) (c .first + k) (levelSizes (c .opened .header) (c .first + k) .pitch)
+    (levelSizes (c .opened .header) (c .first + k) .distance)
     (ownOf (c .opened .header) (c .first) k (c .destination))
 
 -- ---- the functions' parameters: `now` is what a lent slice or number holds, at entry or at exit
@@ -93,16 +94,23 @@ WholeGiven = Record × (Lent × (Lent × (Lent × (Lent × (Lent × (ℕ × (ℕ
 
 abbrev PartsGiven : Type 0
 PartsGiven =
-    Header × (Counts × (Lent × (Lent × (Lent × (Lent × (Lent × (Lent × (Lent × (Lent × (Lent × (Lent × (ℕ × (ℕ × (ℕ × (RefT ℕ × (Lent × Unit {0}))))))))))))))))
+    Header × (Counts × (Lent × (Lent × (Lent × (Lent × (Lent ×
+    (Lent × (Lent × (Lent × (Lent × (Lent × (ℕ × (ℕ × (ℕ × (RefT ℕ × (Lent × Unit {0}))))))))))))))))
 
 abbrev SeveralGiven : Type 0
 SeveralGiven =
-    Header × (Counts × (Lent × (Lent × (Lent × (Lent × (Lent × (Lent × (Lent × (Lent × (Lent × (Lent × (ℕ × (RefT ℕ × (Lent × Unit {0}))))))))))))))
+    Header × (Counts × (Lent × (Lent × (Lent × (Lent × (Lent ×
+    (Lent × (Lent × (Lent × (Lent × (Lent × (ℕ × (RefT ℕ × (Lent × Unit {0}))))))))))))))
 
 -- `open`
 abbrev pub openCall : OpenGiven → Opened → OpenGiven → OpenCall
 openCall (file, (ce, (cs, (ae, (al, _))))) r (_, (ce₁, (cs₁, (ae₁, (al₁, _))))) =
-    record { file = now file; lent = lentOf (now ce) (now cs) (now ae) (now al); after = lentOf (now ce₁) (now cs₁) (now ae₁) (now al₁); answer = r }
+    record {
+      file = now file;
+      lent = lentOf (now ce) (now cs) (now ae) (now al);
+      after = lentOf (now ce₁) (now cs₁) (now ae₁) (now al₁);
+      answer = r;
+    }
 
 -- `open_into`, `crunch_open_parts`: the record's lengths are in lent arrays
 abbrev pub openPartsCall : OpenIntoGiven → OpenedHeader → OpenIntoGiven → OpenCall
@@ -116,7 +124,8 @@ openPartsCall (file, (ce, (cs, (ae, (al, _))))) r (_, (ce₁, (cs₁, (ae₁, (a
 
 -- `unpack_level`
 abbrev pub levelCall : WholeGiven → Unpacked → WholeGiven → LevelCall
-levelCall (r, (file, (ce, (cs, (ae, (al, (n, (pitch, (distance, (budget, (dst, _))))))))))) a (_, (_, (_, (_, (_, (_, (_, (_, (_, (budget₁, (dst₁, _))))))))))) =
+levelCall (r, (file, (ce, (cs, (ae, (al, (n, (pitch, (distance, (budget, (dst, _))))))))))) a
+    (_, (_, (_, (_, (_, (_, (_, (_, (_, (budget₁, (dst₁, _))))))))))) =
     record {
       given = givenBy r (now file) (lentOf (now ce) (now cs) (now ae) (now al)) n pitch distance (now dst);
       budget = now budget;
@@ -131,7 +140,8 @@ levelPartsCall (h, (c, (t₁, (t₂, (t₃, (t₄, (t₅, (file, (ce, (cs, (ae, 
     (_, (_, (_, (_, (_, (_, (_, (_, (_, (_, (_, (_, (_, (_, (_, (budget₁, (dst₁, _))))))))))))))))) =
     record {
       given =
-          givenBy (recordBy h c (now t₁) (now t₂) (now t₃) (now t₄) (now t₅)) (now file) (lentOf (now ce) (now cs) (now ae) (now al)) n pitch distance (now dst);
+          givenBy (recordBy h c (now t₁) (now t₂) (now t₃) (now t₄) (now t₅)) (now file) (lentOf (now ce) (now cs) (now ae) (now al)) n
+          pitch distance (now dst);
       budget = now budget;
       left = now budget₁;
       after = now dst₁;

@@ -51,11 +51,13 @@ pub record LevelTotal (c : LevelCall) : Type 0 where
   pub spent : c .left + c .answer .symbols ≡ c .budget
   pub accepted : c .answer .refusal ≡ 0
       → (c .answer .at ≡ 0)
-      × Accepted (c .given .opened) (segmentIn (c .given)) (c .given .palettes) (gridIn (c .given)) (c .budget) (c .answer .symbols) (c .answer .cutouts)
+      × Accepted (c .given .opened) (segmentIn (c .given)) (c .given .palettes) (gridIn (c .given)) (c .budget) (c .answer .symbols)
+      (c .answer .cutouts)
       (c .given .destination) (c .after)
   pub refused : (c .answer .refusal ≡ 0 → ⊥)
       → (c .answer .cutouts ≡ 0)
-      × Declined (c .given .opened) (segmentIn (c .given)) (gridIn (c .given)) (c .budget) (c .answer .refusal) (c .answer .symbols) (c .answer .at)
+      × Declined (c .given .opened) (segmentIn (c .given)) (gridIn (c .given)) (c .budget) (c .answer .refusal) (c .answer .symbols)
+      (c .answer .at)
       (c .given .destination) (c .after)
 
 -- all levels in one call: those before the refused one stand as each was accepted
@@ -74,7 +76,8 @@ pub record LevelSame (c : LevelCall) : Type 0 where
   pub spent : c .left + c .answer .symbols ≡ c .budget
 
 abbrev pub LevelsSame : LevelsCall → Type 0
-LevelsSame c = Gives (severalOf (c .opened) (c .file) (c .palettes) (c .first) (c .budget) (c .destination)) (c .left) (c .after) (c .answer)
+LevelsSame c =
+    Gives (severalOf (c .opened) (c .file) (c .palettes) (c .first) (c .budget) (c .destination)) (c .left) (c .after) (c .answer)
 
 -- ---- 3. Exact. "With a budget of eight symbols for each chunk and plane plus one for each started group of three chunks, a level is
 -- accepted exactly when a script for it exists; the script is the only one, and every block of every face is given by its position and
@@ -100,7 +103,8 @@ pub record ByScript (c : LevelCall) (ds : List Draws) : Type 0 where
   pub leaves : c .after ≡ painted (gridIn (c .given)) (blocksBy (c .given) ds) (gridIn (c .given) .faces) (c .given .destination)
 
 pub record LevelExact (c : LevelCall) : Type 0 where
-  pub accepted : allowed (c .given) ≤ c .budget → (c .answer .refusal ≡ 0) ↔ (Passes (c .given) × ((ds : List Draws) × ScriptOf (c .given) ds))
+  pub accepted : allowed (c .given) ≤ c .budget → (c .answer .refusal ≡ 0) ↔
+      (Passes (c .given) × ((ds : List Draws) × ScriptOf (c .given) ds))
   pub only : Passes (c .given) → (cs ds : List Draws) → ScriptOf (c .given) cs → ScriptOf (c .given) ds → cs ≡ ds
   pub blocks : (ds : List Draws) → Scripted (c .given) ds (c .budget) → ByScript c ds
 
@@ -132,13 +136,16 @@ pub record AllByScript (c : LevelsCall) (scripts : ℕ → List Draws) : Type 0 
   pub spent : c .left + sumOf (countFrom c) (lengthOf c scripts) ≡ c .budget
   pub leaves : (k : ℕ) → k < countFrom c
       → ownOf (c .opened .header) (c .first) k (c .after)
-      ≡ painted (gridIn (levelOf c k)) (blocksBy (levelOf c k) (scripts k)) (gridIn (levelOf c k) .faces) (ownOf (c .opened .header) (c .first) k (c .destination))
-  pub beyond : behind (c .opened .header) (c .first) (countFrom c) (c .after) ≡ behind (c .opened .header) (c .first) (countFrom c) (c .destination)
+      ≡ painted (gridIn (levelOf c k)) (blocksBy (levelOf c k) (scripts k)) (gridIn (levelOf c k) .faces)
+      (ownOf (c .opened .header) (c .first) k (c .destination))
+  pub beyond : behind (c .opened .header) (c .first) (countFrom c) (c .after) ≡ behind (c .opened .header) (c .first) (countFrom c)
+      (c .destination)
 
 pub record LevelsExact (c : LevelsCall) : Type 0 where
   pub accepted : sumOf (countFrom c) (λ k. allowed (levelOf c k)) ≤ c .budget
       → (c .answer .refusal ≡ 0)
-      ↔ ((c .first < c .opened .header .levels) × ((k : ℕ) → k < countFrom c → Passes (levelOf c k) × ((ds : List Draws) × ScriptOf (levelOf c k) ds)))
+      ↔ ((c .first < c .opened .header .levels) × ((k : ℕ) → k < countFrom c → Passes (levelOf c k)
+      × ((ds : List Draws) × ScriptOf (levelOf c k) ds)))
   pub blocks : (scripts : ℕ → List Draws) → AllScripted c scripts → AllByScript c scripts
 
 -- ---- for hosts: an opened file is ready for its levels, and what is told of sizes is enough
