@@ -19,7 +19,8 @@ use Rattle.crn_laws.specs.Blocks.{blocksBy}
 use Rattle.crn_laws.specs.Levels.{Given, gridIn, unpackingIn, Passes}
 use Rattle.crn_laws.specs.Levels as levels
 use Rattle.crn_laws.proofs.Answering.{blocks-long}
-use Rattle.crn_laws.proofs.Theorems.{accepted-exactly, only-script, blocks-by-script}
+use Rattle.crn_laws.proofs.Ending.{triedIn}
+use Rattle.crn_laws.proofs.Theorems.{accepted-exactly, only-script, blocks-by-script, tries, refused-15}
 use Rattle.crn_laws_total.specs.Refusals.{levelRefusals}
 use Rattle.crn_laws_total.specs.Ends.{LevelEnds}
 use Rattle.crn_laws_total.proofs.Numbers.{not-zero}
@@ -106,6 +107,17 @@ module _ (c : LevelCall) where
     so : (c .answer .refusal ≡ 0) ↔ levels.Accepted (unpackingIn (c .given) (c .budget))
     so = is-accepted (unpackingIn (c .given) (c .budget)) ends (s .answer)
 
+    -- and refused by 15 is what it refuses so
+    is-15 : (u : Unpacking) → c .answer ≡ answerIn u → (c .answer .refusal ≡ 15) ↔ levels.RefusedBy 15 u
+    is-15 (unpacked symbols cutouts after) p = (
+      (λ z. absurd (omega (arith, sym (ap (λ (a : Answer). a .refusal) p) ∙ z))),
+      (λ a. let z : _≡_ {A = ℕ} 0 1 = cc (a .3) in absurd (omega arith)),
+    )
+    is-15 (declined number symbols bit after) p = (
+      (λ z. (symbols, bit, after, ap (λ (n : ℕ). declined n symbols bit after) (sym (ap (λ (a : Answer). a .refusal) p) ∙ z))),
+      (λ a. let z : number ≡ 15 = cc (a .3) in ap (λ (a : Answer). a .refusal) p ∙ z),
+    )
+
     by-script : (ds : List Draws) → Scripted (c .given) ds (c .budget) → ByScript c ds
     by-script ds q =
         let is = blocks-by-script (c .given) (q .passes) ds (q .script) (c .budget) (q .paid) in
@@ -125,4 +137,9 @@ module _ (c : LevelCall) where
               let e = accepted-exactly (c .given) (c .budget) full in ((λ z. e .0 (so .0 z)), (λ q. so .1 (e .1 q)));
           only = only-script (c .given);
           blocks = by-script;
+          spent = λ q.
+              let t = tries (c .given) q in
+              let same = is-15 (unpackingIn (c .given) (c .budget)) (s .answer) in
+              let less = refused-15 (c .given) (triedIn (c .given)) t (c .budget) in
+              (triedIn (c .given), (t, ((λ z. less .0 (same .0 z)), (λ l. same .1 (less .1 l)))));
         }

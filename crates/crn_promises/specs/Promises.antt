@@ -21,7 +21,7 @@ use Rattle.crn_levels.specs.Several.{severalOf, Gives}
 use Rattle.crunch_abi.specs.Sizes.{paletteWords}
 use Rattle.crunch_abi.specs.declared.sizes.PaletteWords.{PaletteWords}
 use Rattle.crn_laws.specs.Scripts.{Draws}
-use Rattle.crn_laws.specs.Levels.{Given, gridIn, kindIn, segmentIn, unpackingIn, Passes, ScriptOf, symbolsOf, allowed}
+use Rattle.crn_laws.specs.Levels.{Given, gridIn, kindIn, segmentIn, unpackingIn, Passes, ScriptOf, symbolsOf, allowed, Tries}
 use Rattle.crn_laws.specs.Blocks.{blocksBy}
 use Rattle.crn_laws_total.specs.Refusals.{among, openingRefusals, levelRefusals}
 use Rattle.crn_laws_total.specs.Ends.{Open, Shut, Accepted, Declined, bytesOf, behind, ownOf, sumOf, SeveralEnds}
@@ -107,6 +107,8 @@ pub record LevelExact (c : LevelCall) : Type 0 where
       (Passes (c .given) × ((ds : List Draws) × ScriptOf (c .given) ds))
   pub only : Passes (c .given) → (cs ds : List Draws) → ScriptOf (c .given) cs → ScriptOf (c .given) ds → cs ≡ ds
   pub blocks : (ds : List Draws) → Scripted (c .given) ds (c .budget) → ByScript c ds
+  -- 15 comes exactly where the budget is less than the draws that the level tries
+  pub spent : Passes (c .given) → (t : ℕ) × (Tries (c .given) t × ((c .answer .refusal ≡ 15) ↔ (c .budget < t)))
 
 -- of the levels from one on, of which there is one at least: each has its script, which the allowances of all pay for
 abbrev pub countFrom : LevelsCall → ℕ
