@@ -1,7 +1,7 @@
 -- From a palette's first bit to its entries: its tables are received, and what is left to be run ends as the palette does.
 use Prim.Native.Nat.{ℕ, _≤_}
 use mathlib.Core.Bool.{Bool, true, false, _&&_}
-use mathlib.Core.List.{List}
+use mathlib.Core.List.{List, []}
 use mathlib.Core.Path.{_≡_, refl, sym, ap, subst, _∙_}
 use native.Mathlib.Omega.{arith}
 use lib.ListN.{take}
@@ -73,6 +73,25 @@ module _ {seg : List ℕ} {c : Cursor} {lookup sorted : List ℕ} {r : Reached} 
   pub received-none : (k : List ℕ → Reading (List ℕ)) {m : Reading (List ℕ)} {before after : List ℕ} {n p : ℕ} → Left seg (next table k) c (run (fromBits seg) m start) → r ≡ Refused n p → after ≡ zeros before
       → Fills seg m before after (record { refusal = n; at = p })
   received-none k {before = before} l e z = fills-none before (left-stop k l (x .reads) e) refl z
+
+-- ---- a palette that has one table, received at its first bit: its entries are asked for what the table gives, and fill what the palette does
+
+module _ {seg lent : List ℕ} {c d : Cursor} {r : Sent} {n : ℕ} {lookup sorted : List ℕ} (x : Lengths seg c lent r) (e : r ≡ Table n d)
+    (k : Decodes (take n lent) lookup sorted) where
+  pub entries-ask : Holds seg d × SomeCode lookup sorted
+  entries-ask = let y = table-decoder x e k in (received-holds y refl, received-some y refl)
+
+  pub entries-fill : (m : Reading (List ℕ)) (rest : List ℕ → Reading (List ℕ)) → next table rest ≡ m → {before after : List ℕ} {w : Ended} → place c ≡ 0
+      → ((ls : List ℕ) → Decodes ls lookup sorted → FillsFrom seg d (rest ls) before after w) → Fills seg m before after w
+  entries-fill m rest is first fills =
+      let y = table-decoder x e k in
+      fills-left (fills (y .lengths) (received-code y refl)) (received-left y refl rest (rw is (all-left seg m c first)))
+
+pub entries-none : {seg lent : List ℕ} {c : Cursor} {r : Sent} {n p : ℕ} (x : Lengths seg c lent r) → r ≡ Declined n p
+    → (m : Reading (List ℕ)) (rest : List ℕ → Reading (List ℕ)) → next table rest ≡ m → {before after : List ℕ} → place c ≡ 0 → after ≡ zeros before
+    → Fills seg m before after (record { refusal = n; at = p })
+entries-none {seg = seg} {c = c} x e m rest is first z =
+    received-none (no-table x e [] []) rest (rw is (all-left seg m c first)) refl z
 
 -- ---- where small arrays do, they have room for either table
 
