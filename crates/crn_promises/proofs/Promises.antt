@@ -1,7 +1,7 @@
 -- The three promises, as theorems over the own contracts of the functions that people call. `Says X.Post (λ a r e. CLAIM ..)` is read:
 -- whatever X is given (a), where it answers r and leaves e as its contract allows, CLAIM holds. The claims are in specs/Promises.antt;
 -- what a call is, in specs/Calls.antt. Each theorem is proved by the law of its file: Look, Opening, Level, Levels, Ready, Told,
--- ToldAll.
+-- ToldAll. The second promise stands first, since the others follow from it.
 --
 -- `open`, `unpack_level` and `unpack_levels` are what `crunch` hands out; `open_into` and `unpack_level_by` are the same with the record
 -- by its parts; those named `crunch_..` are what C and Rust call.
@@ -29,39 +29,6 @@ use Rattle.crn_promises.proofs.Levels as levels
 use Rattle.crn_promises.proofs.Ready as ready
 use Rattle.crn_promises.proofs.Told as told
 use Rattle.crn_promises.proofs.ToldAll as told-all
-
--- ---- 1. TOTAL. "A file may hold anything, and every argument may be wrong. Each call ends, checks its own arguments, and answers with
--- blocks or with a numbered refusal. A level refused before its first draw leaves the destination untouched; one refused later leaves
--- every block of the grid zero and all else as before." None of these functions has a `requires`, so their contracts speak of every
--- call.
-
-pub crunch-look-total : Says crunch-look.Post (λ (file, _) r e. LookTotal (now file) r)
-crunch-look-total κ (file, _) r e p = look.look-total (now file) r p
-
-pub open-total : Says open-call.Post (λ a r e. OpenTotal (openCall a r e))
-open-total κ a r e p = opening.open-total (openCall a r e) p
-
-pub open-into-total : Says open-into.Post (λ a r e. OpenTotal (openPartsCall a r e))
-open-into-total κ a r e p = opening.open-total (openPartsCall a r e) p
-
-pub crunch-open-parts-total : Says crunch-open-parts.Post (λ a r e. OpenTotal (openPartsCall a r e))
-crunch-open-parts-total κ a r e p = opening.open-total (openPartsCall a r e) p
-
-pub unpack-level-total : Says unpack-level.Post (λ a r e. LevelTotal (levelCall a r e))
-unpack-level-total κ a r e p = level.level-total (levelCall a r e) (level.level-same (levelCall a r e) r refl p)
-
-pub unpack-level-by-total : Says unpack-level-by.Post (λ a r e. LevelTotal (levelByCall a r e))
-unpack-level-by-total κ a r e p = level.level-total (levelByCall a r e) (level.level-same (levelByCall a r e) r refl p)
-
-pub crunch-unpack-level-parts-total : Says crunch-unpack-level-parts.Post (λ a r e. LevelTotal (levelPartsCall a r e))
-crunch-unpack-level-parts-total κ a r e p =
-    level.level-total (levelPartsCall a r e) (level.level-same (levelPartsCall a r e) (p .told) (p .same) (p .unpacks))
-
-pub unpack-levels-total : Says unpack-levels.Post (λ a r e. LevelsTotal (levelsCall a r e))
-unpack-levels-total κ a r e p = levels.levels-total (levelsCall a r e) p
-
-pub crunch-unpack-levels-parts-total : Says crunch-unpack-levels-parts.Post (λ a r e. LevelsTotal (levelsCall a r e))
-crunch-unpack-levels-parts-total κ a r e p = levels.levels-total (levelsCall a r e) p
 
 -- ---- 2. THE SAME. "Each accepted file gives the same palettes and, for one face, the same block bytes as the Rust. What we prove
 -- against is written from the published crn_decomp.h." The answer and all that is left are the definitions' (crn_format), for accepted
@@ -91,19 +58,52 @@ unpack-levels-same κ a r e p = p
 pub crunch-unpack-levels-parts-same : Says crunch-unpack-levels-parts.Post (λ a r e. LevelsSame (levelsCall a r e))
 crunch-unpack-levels-parts-same κ a r e p = p
 
+-- ---- 1. TOTAL. "A file may hold anything, and every argument may be wrong. Each call ends, checks its own arguments, and answers with
+-- blocks or with a numbered refusal. A level refused before its first draw leaves the destination untouched; one refused later leaves
+-- every block of the grid zero and all else as before." None of these functions has a `requires`, so their contracts speak of every
+-- call.
+
+pub crunch-look-total : Says crunch-look.Post (λ (file, _) r e. LookTotal (now file) r)
+crunch-look-total κ (file, _) r e p = look.look-total (now file) r p
+
+pub open-total : Says open-call.Post (λ a r e. OpenTotal (openCall a r e))
+open-total κ a r e p = opening.open-total (openCall a r e) p
+
+pub open-into-total : Says open-into.Post (λ a r e. OpenTotal (openPartsCall a r e))
+open-into-total κ a r e p = opening.open-total (openPartsCall a r e) p
+
+pub crunch-open-parts-total : Says crunch-open-parts.Post (λ a r e. OpenTotal (openPartsCall a r e))
+crunch-open-parts-total κ a r e p = opening.open-total (openPartsCall a r e) p
+
+pub unpack-level-total : Says unpack-level.Post (λ a r e. LevelTotal (levelCall a r e))
+unpack-level-total κ a r e p = level.level-total (levelCall a r e) (unpack-level-same κ a r e p)
+
+pub unpack-level-by-total : Says unpack-level-by.Post (λ a r e. LevelTotal (levelByCall a r e))
+unpack-level-by-total κ a r e p = level.level-total (levelByCall a r e) (unpack-level-by-same κ a r e p)
+
+pub crunch-unpack-level-parts-total : Says crunch-unpack-level-parts.Post (λ a r e. LevelTotal (levelPartsCall a r e))
+crunch-unpack-level-parts-total κ a r e p =
+    level.level-total (levelPartsCall a r e) (crunch-unpack-level-parts-same κ a r e p)
+
+pub unpack-levels-total : Says unpack-levels.Post (λ a r e. LevelsTotal (levelsCall a r e))
+unpack-levels-total κ a r e p = levels.levels-total (levelsCall a r e) p
+
+pub crunch-unpack-levels-parts-total : Says crunch-unpack-levels-parts.Post (λ a r e. LevelsTotal (levelsCall a r e))
+crunch-unpack-levels-parts-total κ a r e p = levels.levels-total (levelsCall a r e) p
+
 -- ---- 3. EXACT. "With a budget of eight symbols for each chunk and plane plus one for each started group of three chunks, a level is
 -- accepted exactly when a script for it exists; the script is the only one, and every block of every face is given by its position and
 -- the script."
 
 pub unpack-level-exact : Says unpack-level.Post (λ a r e. LevelExact (levelCall a r e))
-unpack-level-exact κ a r e p = level.level-exact (levelCall a r e) (level.level-same (levelCall a r e) r refl p)
+unpack-level-exact κ a r e p = level.level-exact (levelCall a r e) (unpack-level-same κ a r e p)
 
 pub unpack-level-by-exact : Says unpack-level-by.Post (λ a r e. LevelExact (levelByCall a r e))
-unpack-level-by-exact κ a r e p = level.level-exact (levelByCall a r e) (level.level-same (levelByCall a r e) r refl p)
+unpack-level-by-exact κ a r e p = level.level-exact (levelByCall a r e) (unpack-level-by-same κ a r e p)
 
 pub crunch-unpack-level-parts-exact : Says crunch-unpack-level-parts.Post (λ a r e. LevelExact (levelPartsCall a r e))
 crunch-unpack-level-parts-exact κ a r e p =
-    level.level-exact (levelPartsCall a r e) (level.level-same (levelPartsCall a r e) (p .told) (p .same) (p .unpacks))
+    level.level-exact (levelPartsCall a r e) (crunch-unpack-level-parts-same κ a r e p)
 
 pub unpack-levels-exact : Says unpack-levels.Post (λ a r e. LevelsExact (levelsCall a r e))
 unpack-levels-exact κ a r e p = levels.levels-exact (levelsCall a r e) p
@@ -124,14 +124,14 @@ pub crunch-open-parts-ready : Says crunch-open-parts.Post (λ a r e. OpenReady (
 crunch-open-parts-ready κ a r e p = opening.open-ready (openPartsCall a r e) p
 
 pub unpack-level-ready : Says unpack-level.Post (λ a r e. LevelReady (levelCall a r e))
-unpack-level-ready κ a r e p = ready.level-ready (levelCall a r e) (level.level-same (levelCall a r e) r refl p)
+unpack-level-ready κ a r e p = ready.level-ready (levelCall a r e) (unpack-level-same κ a r e p)
 
 pub unpack-level-by-ready : Says unpack-level-by.Post (λ a r e. LevelReady (levelByCall a r e))
-unpack-level-by-ready κ a r e p = ready.level-ready (levelByCall a r e) (level.level-same (levelByCall a r e) r refl p)
+unpack-level-by-ready κ a r e p = ready.level-ready (levelByCall a r e) (unpack-level-by-same κ a r e p)
 
 pub crunch-unpack-level-parts-ready : Says crunch-unpack-level-parts.Post (λ a r e. LevelReady (levelPartsCall a r e))
 crunch-unpack-level-parts-ready κ a r e p =
-    ready.level-ready (levelPartsCall a r e) (level.level-same (levelPartsCall a r e) (p .told) (p .same) (p .unpacks))
+    ready.level-ready (levelPartsCall a r e) (crunch-unpack-level-parts-same κ a r e p)
 
 pub unpack-levels-ready : Says unpack-levels.Post (λ a r e. LevelsReady (levelsCall a r e))
 unpack-levels-ready κ a r e p = ready.levels-ready (levelsCall a r e) p
@@ -155,14 +155,14 @@ pub crunch-open-parts-told : Says crunch-open-parts.Post (λ a r e. OpenTold (op
 crunch-open-parts-told κ a r e p = opening.open-told (openPartsCall a r e) p
 
 pub unpack-level-told : Says unpack-level.Post (λ a r e. LevelTold (levelCall a r e))
-unpack-level-told κ a r e p = told.level-told (levelCall a r e) (level.level-same (levelCall a r e) r refl p)
+unpack-level-told κ a r e p = told.level-told (levelCall a r e) (unpack-level-same κ a r e p)
 
 pub unpack-level-by-told : Says unpack-level-by.Post (λ a r e. LevelTold (levelByCall a r e))
-unpack-level-by-told κ a r e p = told.level-told (levelByCall a r e) (level.level-same (levelByCall a r e) r refl p)
+unpack-level-by-told κ a r e p = told.level-told (levelByCall a r e) (unpack-level-by-same κ a r e p)
 
 pub crunch-unpack-level-parts-told : Says crunch-unpack-level-parts.Post (λ a r e. LevelTold (levelPartsCall a r e))
 crunch-unpack-level-parts-told κ a r e p =
-    told.level-told (levelPartsCall a r e) (level.level-same (levelPartsCall a r e) (p .told) (p .same) (p .unpacks))
+    told.level-told (levelPartsCall a r e) (crunch-unpack-level-parts-same κ a r e p)
 
 pub unpack-levels-told : Says unpack-levels.Post (λ a r e. LevelsTold (levelsCall a r e))
 unpack-levels-told κ a r e p = told-all.levels-told (levelsCall a r e) p
