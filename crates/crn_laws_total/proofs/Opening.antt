@@ -18,7 +18,7 @@ use Rattle.crn_format.specs.declared.Header.{Header}
 use Rattle.crn_format.proofs.Choices.{both-hold}
 use Rattle.crn_laws_total.specs.Refusals.{among, beforeStreams, inStreams}
 use Rattle.crn_laws_total.specs.Leaves.{Zeroed, Beyond}
-use Rattle.crn_laws_total.specs.Ends.{Shut, OpeningEnds}
+use Rattle.crn_laws_total.specs.Ends.{Open, Shut, OpeningEnds}
 use Rattle.crn_laws_total.proofs.Numbers.{among-first, among-second, none-in-both}
 use Rattle.crn_laws_total.proofs.Refusing.{Refuses, Stops, bits-stop}
 use Rattle.crn_laws_total.proofs.OpeningReadings.{tables-refuse, color-endpoints, color-selectors, alpha-endpoints, alpha-selectors}
@@ -72,18 +72,19 @@ module _ (lent : Palettes) (n : ℕ) where
 abbrev ok : ℕ → Bool
 ok n = among n inStreams
 
-module _ (lent : Palettes) where
-  on : {A : Type 0} (s : Step Place A) (k : A → Opening) → Stops ok s → ((a : A) (w : Place) → s ≡ got a w → OpeningEnds lent (k a))
-      → OpeningEnds lent (onward lent s k)
+-- what holds of every refusal in a stream, and of what is opened in the end, holds of the streams
+module _ (lent : Palettes) (P : Opening → Type 0) (stopped : (n bit : ℕ) → among n inStreams ≡ true → P (shut n bit (zeroed lent))) where
+  on : {A : Type 0} (s : Step Place A) (k : A → Opening) → Stops ok s → ((a : A) (w : Place) → s ≡ got a w → P (k a))
+      → P (onward lent s k)
   unfolding onward
   on (got a w) k h g = g a w refl
-  on (refused n w) k h g = late lent n _ h
+  on (refused n w) k h g = stopped n (w .blamed) h
 
   -- a palette of n words for its buffer: what is then left of the buffer
   palette : (file : List ℕ) (there : Bool) (p : Part) (reading : ℕ → Reading (List ℕ)) (n : ℕ) (b : List ℕ) (k : List ℕ → Opening)
       → Refuses ok (reading (p .count)) → All (Long n) (reading (p .count)) → (there ≡ true → n ≤ length b)
-      → ((a : List ℕ) → (there ≡ true → Beyond n b a) → (there ≡ false → a ≡ b) → OpeningEnds lent (k a))
-      → OpeningEnds lent (paletteIn file lent there p reading b k)
+      → ((a : List ℕ) → (there ≡ true → Beyond n b a) → (there ≡ false → a ≡ b) → P (k a))
+      → P (paletteIn file lent there p reading b k)
   unfolding paletteIn
   palette file true p reading n b k refuses long room g =
       on (run (fromBits (segment file (p .offset) (p .size))) (reading (p .count)) start) _
@@ -130,35 +131,43 @@ module _ (file : List ℕ) (lent : Palettes) (h : Header) where
   abbrev after-tables : Lengths → Opening
   after-tables t = paletteIn file lent (present (h .«color_endpoints»)) (h .«color_endpoints») colorEndpoints (lent .colorEnds) (after-one t)
 
-  module _ (room : roomFor h lent ≡ true) (t : Lengths) where
-    palettes-end : OpeningEnds lent (after-tables t)
-    palettes-end =
-        palette lent file (present (h .«color_endpoints»)) (h .«color_endpoints») colorEndpoints (h .«color_endpoints» .count) (lent .colorEnds) (after-one t)
+  module _ (room : roomFor h lent ≡ true) (P : Opening → Type 0)
+      (stopped : (n bit : ℕ) → among n inStreams ≡ true → P (shut n bit (zeroed lent))) where
+    palettes-through : (t : Lengths) → ((after : Palettes) → Open h lent after
+        → P (opened (record { header = h; tables = tablesOf t }) after)) → P (after-tables t)
+    palettes-through t through =
+        palette lent P stopped file (present (h .«color_endpoints»)) (h .«color_endpoints») colorEndpoints (h .«color_endpoints» .count)
+        (lent .colorEnds) (after-one t)
         (color-endpoints ok refl (h .«color_endpoints» .count)) (color-endpoints-long (h .«color_endpoints» .count))
         (λ there. leb-true _ _ (color-room h lent room there .0))
         (λ ce ce-on ce-off.
-        palette lent file (present (h .«color_endpoints»)) (h .«color_selectors») colorSelectors (h .«color_selectors» .count) (lent .colorSels) (after-two t ce)
+        palette lent P stopped file (present (h .«color_endpoints»)) (h .«color_selectors») colorSelectors (h .«color_selectors» .count)
+        (lent .colorSels) (after-two t ce)
         (color-selectors ok refl (h .«color_selectors» .count) refl) (color-selectors-long (h .«color_selectors» .count))
         (λ there. leb-true _ _ (color-room h lent room there .1))
         (λ cs cs-on cs-off.
-        palette lent file (present (h .«alpha_endpoints»)) (h .«alpha_endpoints») alphaEndpoints (h .«alpha_endpoints» .count) (lent .alphaEnds) (after-three t ce cs)
+        palette lent P stopped file (present (h .«alpha_endpoints»)) (h .«alpha_endpoints») alphaEndpoints (h .«alpha_endpoints» .count)
+        (lent .alphaEnds) (after-three t ce cs)
         (alpha-endpoints ok refl (h .«alpha_endpoints» .count)) (alpha-endpoints-long (h .«alpha_endpoints» .count))
         (λ there. leb-true _ _ (alpha-room h lent room there .0))
         (λ ae ae-on ae-off.
-        palette lent file (present (h .«alpha_endpoints»)) (h .«alpha_selectors») alphaSelectors (3 * h .«alpha_selectors» .count) (lent .alphaSels) (after-four t ce cs ae)
+        palette lent P stopped file (present (h .«alpha_endpoints»)) (h .«alpha_selectors») alphaSelectors
+        (3 * h .«alpha_selectors» .count) (lent .alphaSels) (after-four t ce cs ae)
         (alpha-selectors ok refl (h .«alpha_selectors» .count) refl) (alpha-selectors-long (h .«alpha_selectors» .count))
         (λ there. leb-true _ _ (alpha-room h lent room there .1))
-        (λ al al-on al-off. record {
+        (λ al al-on al-off. through (record { colorEnds = ce; colorSels = cs; alphaEnds = ae; alphaSels = al }) (record {
           color = record { first = ce-on; second = cs-on; unread = λ f. (ce-off f, cs-off f) };
           alpha = record { first = ae-on; second = al-on; unread = λ f. (ae-off f, al-off f) };
-        }))))
+        })))))
 
-  streams-end : roomFor h lent ≡ true → OpeningEnds lent (streams file lent h)
-  unfolding streams
-  streams-end room =
-      on lent (run (fromBits (segment file (h .«tables_offset») (h .«tables_size»))) (sentTables h) start) after-tables
-      (bits-stop ok refl refl (segment file (h .«tables_offset») (h .«tables_size»)) (sentTables h) (tables-refuse ok refl h) start)
-      (λ t _ _. palettes-end room t)
+    pub streams-through : ((t : Lengths) (w : Place) → run (fromBits (segment file (h .«tables_offset») (h .«tables_size»))) (sentTables h)
+        start ≡ got t w
+        → (after : Palettes) → Open h lent after → P (opened (record { header = h; tables = tablesOf t }) after)) → P (streams file lent h)
+    unfolding streams
+    streams-through through =
+        on lent P stopped (run (fromBits (segment file (h .«tables_offset») (h .«tables_size»))) (sentTables h) start) after-tables
+        (bits-stop ok refl refl (segment file (h .«tables_offset») (h .«tables_size»)) (sentTables h) (tables-refuse ok refl h) start)
+        (λ t w e. palettes-through t (through t w e))
 
 -- ---- the whole
 
@@ -182,4 +191,4 @@ opening-ends file lent =
     by true true false d e is = early lent 3 refl
     by true true true false e is = early lent 4 refl
     by true true true true false is = early lent 5 refl
-    by true true true true true is = streams-end file lent h is
+    by true true true true true is = streams-through file lent h is (OpeningEnds lent) (late lent) (λ t w e after o. o)

@@ -7,7 +7,7 @@ use native.Mathlib.Omega.{arith}
 use lib.ListN.{take}
 use lib.Dec.{leb, ltb}
 use borrow.Author.Tests.{leb-true}
-use Rattle.crn_format.specs.Reading.{Reading, next, Step, refused, Place, spot, start, run, fromBits}
+use Rattle.crn_format.specs.Reading.{Reading, next, Step, Place, spot, start, run, fromBits}
 use Rattle.crn_format.specs.Tables.{table}
 use Rattle.crn_format.specs.Opening.{zeros}
 use Rattle.crn_symbol_codec.specs.Cursors.{place, Holds}

@@ -1,7 +1,6 @@
 -- What the definition of several levels promises, of a call that answers and leaves what it says: each level is as by a call of its own,
 -- so what holds of one holds of all.
 use Prim.Native.Nat.{ℕ, zero, suc, _+_, _-_, _≤_, _<_}
-use mathlib.Core.Bool.{true}
 use mathlib.Core.List.{List, [], _++_}
 use mathlib.Core.Path.{_≡_, refl, sym, ap, subst, _∙_}
 use native.Mathlib.Omega.{arith}
@@ -15,7 +14,7 @@ use Rattle.crn_format.specs.Opening.{Palettes}
 use Rattle.crn_format.specs.Unpacking.{Unpacking, unpacked, declined, cutoutCount}
 use Rattle.crn_format.specs.declared.Record.{Record}
 use Rattle.crn_sizes.specs.Sizes.{levelSizes}
-use Rattle.crn_levels.specs.Several.{Far, Ended, begun, further, onward, severalFrom, severalOf}
+use Rattle.crn_levels.specs.Several.{Far, begun, further, onward, severalFrom, severalOf}
 use Rattle.crn_levels.specs.declared.Several.{Several}
 use Rattle.crn_laws.specs.Scripts.{Draws}
 use Rattle.crn_laws.specs.Blocks.{blocksBy}

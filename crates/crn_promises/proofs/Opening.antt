@@ -3,22 +3,21 @@
 use Prim.Native.Nat.{ℕ, zero, suc, _+_, _*_, _-_, _≤_}
 use mathlib.Core.Bool.{Bool, true, false, false≢true}
 use mathlib.Core.Logic.{inl, inr}
-use mathlib.Core.List.{List, [], _∷_, _++_}
+use mathlib.Core.List.{List, [], _++_}
 use mathlib.Core.Path.{_≡_, refl, sym, ap, _∙_}
 use native.Mathlib.Omega.{arith}
 use lib.ListN.{length, replicate, length-append, length-replicate}
 use lib.Seq.{take-append-seam}
 use lib.Dec.{leb, ltb, eqb}
 use borrow.Author.Tests.{leb-true, ltb-false, le-leb, lt-ltb}
-use Rattle.crn_format.specs.Choice.{pick, both, either}
-use Rattle.crn_format.specs.Limits.{maxSymbols, maxSide, maxLevels, maxEntries}
+use Rattle.crn_format.specs.Choice.{pick, either}
+use Rattle.crn_format.specs.Limits.{maxSymbols, maxSide, maxLevels}
 use Rattle.crn_format.specs.Codes.{isCode}
-use Rattle.crn_format.specs.Reading.{Reading, Step, got, refused, Place, start, next, run, fromBits}
+use Rattle.crn_format.specs.Reading.{refused, start, fromBits}
 use Rattle.crn_format.specs.Tables.{lengthOrder, sentLengths, runOf, lengthsFrom, checked, coded, counted, table}
-use Rattle.crn_format.specs.Palettes.{colorEndpoints, colorSelectors, alphaEndpoints, alphaSelectors}
 use Rattle.crn_format.specs.Header.{kindOf, known, hasColor, hasAlpha, between, entriesFit, headerOf, withinLimits, sizesHold, signed}
-use Rattle.crn_format.specs.Opening.{Palettes, Opening, opened, shut, Lengths, present, planeTables, sentTables, tableOf, tablesOf, segmentsStand, roomFor, segment, filled, onward, paletteIn, streams, opening}
-use Rattle.crn_format.specs.Unpacking.{lengthsOf, tableHolds, tablesHold, palettesReach}
+use Rattle.crn_format.specs.Opening.{Palettes, Opening, opened, shut, Lengths, present, planeTables, sentTables, tableOf, tablesOf, segmentsStand, roomFor, segment, streams, opening}
+use Rattle.crn_format.specs.Unpacking.{tableHolds, tablesHold, palettesReach}
 use Rattle.crn_format.specs.declared.Part.{Part}
 use Rattle.crn_format.specs.declared.Header.{Header}
 use Rattle.crn_format.proofs.Choices.{both-hold}
@@ -30,9 +29,7 @@ use Rattle.crn_laws_total.specs.Leaves.{Beyond}
 use Rattle.crn_laws_total.specs.Refusals.{among, inStreams, openingRefusals}
 use Rattle.crn_laws_total.specs.Ends.{Open, OpeningEnds}
 use Rattle.crn_laws_total.proofs.Numbers.{not-zero}
-use Rattle.crn_laws_total.proofs.Refusing.{Refuses, Stops, bits-stop}
-use Rattle.crn_laws_total.proofs.OpeningReadings.{tables-refuse, color-endpoints, color-selectors, alpha-endpoints, alpha-selectors}
-use Rattle.crn_laws_total.proofs.Opening.{opening-ends}
+use Rattle.crn_laws_total.proofs.Opening.{streams-through, opening-ends}
 use Rattle.crn_promises.specs.Calls.{OpenCall}
 use Rattle.crn_promises.specs.Promises.{OpenTotal, OpenSame, OpenReady, OpenTold}
 
@@ -129,66 +126,7 @@ tables-hold t g =
       holds (t .alphaSels) (g .alphaSels),
     )
 
--- ---- through the streams: what holds of every refusal there and of what is opened in the end
-
--- the refusals of a stream
-abbrev ok : ℕ → Bool
-ok n = among n inStreams
-
-module _ (file : List ℕ) (lent : Palettes) (h : Header) (P : Opening → Type 0)
-    (no : (n bit : ℕ) (after : Palettes) → among n inStreams ≡ true → P (shut n bit after)) where
-  on : {A : Type 0} (s : Step Place A) (k : A → Opening) → Stops ok s → ((a : A) (w : Place) → s ≡ got a w → P (k a)) → P (onward lent s k)
-  unfolding onward
-  on (got a w) k stops g = g a w refl
-  on (refused n w) k stops g = no n _ _ stops
-
-  palette : (there : Bool) (p : Part) (reading : ℕ → Reading (List ℕ)) (b : List ℕ) (k : List ℕ → Opening)
-      → Refuses ok (reading (p .count)) → ((a : List ℕ) → P (k a))
-      → P (paletteIn file lent there p reading b k)
-  unfolding paletteIn
-  palette true p reading b k refuses g =
-      on (run (fromBits (segment file (p .offset) (p .size))) (reading (p .count)) start) (λ ws. k (filled ws b))
-      (bits-stop ok refl refl (segment file (p .offset) (p .size)) (reading (p .count)) refuses start) (λ ws w e. g (filled ws b))
-  palette false p reading b k refuses g = g b
-
-  -- what is left to do after the tables and so many palettes
-  abbrev after-four : Lengths → List ℕ → List ℕ → List ℕ → List ℕ → Opening
-  after-four t ce cs ae al =
-      opened (record { header = h; tables = tablesOf t }) (record { colorEnds = ce; colorSels = cs; alphaEnds = ae; alphaSels = al })
-
-  abbrev after-three : Lengths → List ℕ → List ℕ → List ℕ → Opening
-  after-three t ce cs ae =
-      paletteIn file lent (present (h .«alpha_endpoints»)) (h .«alpha_selectors») alphaSelectors (lent .alphaSels) (after-four t ce cs ae)
-
-  abbrev after-two : Lengths → List ℕ → List ℕ → Opening
-  after-two t ce cs =
-      paletteIn file lent (present (h .«alpha_endpoints»)) (h .«alpha_endpoints») alphaEndpoints (lent .alphaEnds) (after-three t ce cs)
-
-  abbrev after-one : Lengths → List ℕ → Opening
-  after-one t ce =
-      paletteIn file lent (present (h .«color_endpoints»)) (h .«color_selectors») colorSelectors (lent .colorSels) (after-two t ce)
-
-  abbrev after-tables : Lengths → Opening
-  after-tables t =
-      paletteIn file lent (present (h .«color_endpoints»)) (h .«color_endpoints») colorEndpoints (lent .colorEnds) (after-one t)
-
-  through : ((t : Lengths) → Goods t → (after : Palettes) → P (opened (record { header = h; tables = tablesOf t }) after))
-      → P (streams file lent h)
-  unfolding streams
-  through g =
-      on (run (fromBits (segment file (h .«tables_offset») (h .«tables_size»))) (sentTables h) start) after-tables
-      (bits-stop ok refl refl (segment file (h .«tables_offset») (h .«tables_size»)) (sentTables h) (tables-refuse ok refl h) start)
-      (λ t w e. let good : Goods t = run-all (fromBits (segment file (h .«tables_offset») (h .«tables_size»))) Goods (sentTables h)
-      (sent-good h) start e in
-      palette (present (h .«color_endpoints»)) (h .«color_endpoints») colorEndpoints (lent .colorEnds) (after-one t)
-      (color-endpoints ok refl (h .«color_endpoints» .count))
-      (λ ce. palette (present (h .«color_endpoints»)) (h .«color_selectors») colorSelectors (lent .colorSels) (after-two t ce)
-      (color-selectors ok refl (h .«color_selectors» .count) refl)
-      (λ cs. palette (present (h .«alpha_endpoints»)) (h .«alpha_endpoints») alphaEndpoints (lent .alphaEnds) (after-three t ce cs)
-      (alpha-endpoints ok refl (h .«alpha_endpoints» .count))
-      (λ ae. palette (present (h .«alpha_endpoints»)) (h .«alpha_selectors») alphaSelectors (lent .alphaSels) (after-four t ce cs ae)
-      (alpha-selectors ok refl (h .«alpha_selectors» .count) refl)
-      (λ al. g t good (record { colorEnds = ce; colorSels = cs; alphaEnds = ae; alphaSels = al }))))))
+-- ---- through the streams
 
 -- what is opened has a header within its limits and tables that hold; and 5 is the refusal of a palette that is too short, and no other's
 abbrev Kept : Bool → Opening → Type 0
@@ -200,21 +138,26 @@ not-five n e z = false≢true (ap (λ (k : ℕ). among k inStreams) (sym z) ∙ 
 
 opening-kept : (file : List ℕ) (lent : Palettes) → Kept (roomFor (headerOf file) lent) (opening file lent)
 unfolding opening
-opening-kept file lent = by (signed file) (withinLimits h) (sizesHold file h) (segmentsStand file h) (roomFor h lent) refl
+opening-kept file lent = by (signed file) (withinLimits h) (sizesHold file h) (segmentsStand file h) (roomFor h lent) refl refl
   where
     h : Header
     h = headerOf file
 
-    by : (a b c d e : Bool) → withinLimits h ≡ b
+    by : (a b c d e : Bool) → withinLimits h ≡ b → roomFor h lent ≡ e
         → Kept e (pick a (pick b (pick c (pick d (pick e (streams file lent h) (shut 5 0 lent)) (shut 4 0 lent)) (shut 3 0 lent))
         (shut 2 0 lent)) (shut 1 0 lent))
-    by false b c d e is = λ _ z. omega arith
-    by true false c d e is = λ _ z. omega arith
-    by true true false d e is = λ _ z. omega arith
-    by true true true false e is = λ _ z. omega arith
-    by true true true true false is = λ no _. false≢true no
-    by true true true true true is =
-        through file lent h (Kept true) (λ n bit after stops _. not-five n stops) (λ t g after. (is, tables-hold t g))
+    by false b c d e is room = λ _ z. omega arith
+    by true false c d e is room = λ _ z. omega arith
+    by true true false d e is room = λ _ z. omega arith
+    by true true true false e is room = λ _ z. omega arith
+    by true true true true false is room = λ no _. false≢true no
+    by true true true true true is room =
+        streams-through file lent h room (Kept true) (λ n bit stops _. not-five n stops)
+        (λ t w e after _. (
+          is,
+          tables-hold t (run-all (fromBits (segment file (h .«tables_offset») (h .«tables_size»))) Goods
+              (sentTables h) (sent-good h) start e),
+        ))
 
 -- ---- the palettes
 

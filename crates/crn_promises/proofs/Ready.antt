@@ -2,8 +2,7 @@
 use Prim.Native.Nat.{ℕ}
 use mathlib.Core.Bool.{Bool, true, false, false≢true}
 use mathlib.Core.List.{List, [], _∷_}
-use mathlib.Core.Path.{_≡_, refl, sym, ap, subst, _∙_}
-use native.Mathlib.Omega.{arith}
+use mathlib.Core.Path.{_≡_, refl, subst}
 use lib.ListN.{length}
 use lib.Dec.{leb, ltb}
 use Rattle.crn_format.specs.Choice.{pick}
@@ -15,7 +14,6 @@ use Rattle.crn_format.specs.Grid.{chunkCount, insides}
 use Rattle.crn_format.specs.Unpacking.{Unpacking, unpacked, declined, lengthsOf, levelStands, levelSegment, gridOf, gridFits, reach, planesOf, shadesOf, ended, levelReading, drawnLevel, unpacking}
 use Rattle.crn_format.specs.declared.Record.{Record}
 use Rattle.crn_format.specs.declared.Grid.{Grid}
-use Rattle.crunch_abi.specs.declared.level.Answer.{Answer}
 use Rattle.crn_laws.specs.Levels.{unpackingIn}
 use Rattle.crn_laws_total.specs.Refusals.{among, inDraws}
 use Rattle.crn_laws_total.proofs.Numbers.{none-in-both, not-zero}

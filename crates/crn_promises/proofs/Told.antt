@@ -14,7 +14,7 @@ use Rattle.crn_format.specs.Header.{Kind, DXT1, DXT5, DXT5A, DXN, unknown, kind
 use Rattle.crn_format.specs.Opening.{Palettes}
 use Rattle.crn_format.specs.Level.{Chunk}
 use Rattle.crn_format.specs.Grid.{pixels, blocks, chunkCount, insides, painted, blank}
-use Rattle.crn_format.specs.Unpacking.{Unpacking, unpacked, declined, lengthsOf, tablesHold, levelStands, levelSegment, palettesReach, gridOf, gridFits, reach, planesOf, shadesOf, ended, levelReading, drawnLevel, unpacking}
+use Rattle.crn_format.specs.Unpacking.{Unpacking, unpacked, declined, lengthsOf, levelStands, levelSegment, gridOf, gridFits, reach, planesOf, shadesOf, ended, levelReading, drawnLevel, unpacking}
 use Rattle.crn_format.specs.declared.Header.{Header}
 use Rattle.crn_format.specs.declared.Record.{Record}
 use Rattle.crn_format.specs.declared.Grid.{Grid}
@@ -22,7 +22,6 @@ use Rattle.crn_format.proofs.Passing.{passed-drawn}
 use Rattle.crn_sizes.specs.Sizes.{close, levelSizes}
 use Rattle.crn_sizes.specs.declared.LevelSizes.{LevelSizes}
 use Rattle.crn_sizes.proofs.Enough.{sizes-so, grid-fits}
-use Rattle.crunch_abi.specs.declared.level.Answer.{Answer}
 use Rattle.crn_laws.specs.Levels.{Given, unpackingIn, Passes, RefusedBy}
 use Rattle.crn_laws.proofs.Theorems.{told-allowed, tries, refused-15}
 use Rattle.crn_laws.proofs.Ending.{triedIn}

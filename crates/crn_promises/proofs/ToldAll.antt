@@ -1,5 +1,5 @@
 -- The same of all levels in one call: with the sums of the bytes and of the symbols that are told for them.
-use Prim.Native.Nat.{ℕ, zero, suc, _+_, _-_, _≤_, _<_}
+use Prim.Native.Nat.{ℕ, zero, suc, _+_, _-_, _≤_}
 use mathlib.Core.Bool.{true}
 use mathlib.Core.Logic.{_⊎_, inl, inr}
 use mathlib.Core.List.{List, _++_}
@@ -14,8 +14,7 @@ use Rattle.crn_format.specs.declared.Header.{Header}
 use Rattle.crn_format.specs.declared.Record.{Record}
 use Rattle.crn_sizes.specs.Sizes.{levelSizes}
 use Rattle.crn_sizes.specs.declared.LevelSizes.{LevelSizes}
-use Rattle.crn_levels.specs.Several.{Far, begun, further, onward, severalFrom, severalOf}
-use Rattle.crn_levels.specs.declared.Several.{Several}
+use Rattle.crn_levels.specs.Several.{Far, begun, further, onward, severalFrom}
 use Rattle.crn_laws.specs.Levels.{Given, unpackingIn, Passes, symbolsOf, allowed}
 use Rattle.crn_laws.proofs.Theorems.{told-allowed, exact-acceptance, script-allowed, blocks-by-script}
 use Rattle.crn_laws.proofs.Ending.{accepted-passes}

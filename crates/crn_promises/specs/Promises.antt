@@ -19,7 +19,6 @@ use Rattle.crn_sizes.specs.Sizes.{levelSizes}
 use Rattle.crn_sizes.specs.declared.LevelSizes.{LevelSizes}
 use Rattle.crn_levels.specs.Several.{severalOf, Gives}
 use Rattle.crunch_abi.specs.Sizes.{paletteWords}
-use Rattle.crunch_abi.specs.declared.sizes.PaletteWords.{PaletteWords}
 use Rattle.crn_laws.specs.Scripts.{Draws}
 use Rattle.crn_laws.specs.Levels.{Given, gridIn, kindIn, segmentIn, unpackingIn, Passes, ScriptOf, symbolsOf, allowed, Tries}
 use Rattle.crn_laws.specs.Blocks.{blocksBy}

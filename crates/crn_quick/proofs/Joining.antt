@@ -10,7 +10,7 @@ use Rattle.crn_format.specs.Level.{endpointIndices, positionSelectors}
 use Rattle.crn_symbol_codec.specs.Cursors.{place, Holds}
 use Rattle.crn_symbol_codec.specs.declared.Cursor.{Cursor}
 use Rattle.crn_chunks.specs.Meaning.{source, row, planeOf, planes, most}
-use Rattle.crn_chunks.specs.Parts.{Tiled, Picks, rowsTo}
+use Rattle.crn_chunks.specs.Parts.{Tiled, rowsTo}
 use Rattle.crn_chunks.specs.Reads.{insideOf}
 use Rattle.crn_chunks.specs.declared.Side.{Side}
 use Rattle.crn_chunks.specs.declared.Planes.{Planes}
