@@ -35,6 +35,14 @@ use Rattle.crn_laws_total.proofs.Counted.{same-count}
 abbrev ok : ℕ → Bool
 ok n = among n inDraws
 
+-- a level's chunks are read, or one of them stops it
+pub level-stops : (r : Record) (seg : List ℕ) (g : Grid) (budget : ℕ)
+    → Stops (λ n. among n inDraws) (run (budgeted (fromBits seg)) (levelReading r g) (record { place = start; left = budget }))
+level-stops r seg g budget =
+    budget-stops ok refl refl seg refl (levelReading r g)
+    (level-refuses ok refl refl (lengthsOf (r .tables .«chunk_encoding»)) (planesOf r) (insides g 0 (chunkCount g)))
+    (record { place = start; left = budget })
+
 module _ (r : Record) (file : List ℕ) (p : Palettes) (n pitch distance budget : ℕ) (dst : List ℕ) where
   abbrev h : Header
   h = r .header
@@ -111,8 +119,7 @@ module _ (r : Record) (file : List ℕ) (p : Palettes) (n pitch distance budget 
     unfolding drawnLevel
     drawn-ends =
         by-run (run (budgeted (fromBits seg)) (levelReading r g) (record { place = start; left = budget })) refl
-        (budget-stops ok refl refl seg refl (levelReading r g)
-        (level-refuses ok refl refl (lengthsOf (r .tables .«chunk_encoding»)) (planesOf r) (insides g 0 (chunkCount g))) (record { place = start; left = budget }))
+        (level-stops r seg g budget)
 
   -- ---- the checks
 

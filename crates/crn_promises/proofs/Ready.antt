@@ -10,15 +10,14 @@ use Rattle.crn_format.specs.Reading.{Step, got, refused, Spending, start, run, 
 use Rattle.crn_format.specs.Header.{kindOf}
 use Rattle.crn_format.specs.Opening.{Palettes}
 use Rattle.crn_format.specs.Level.{Chunk}
-use Rattle.crn_format.specs.Grid.{chunkCount, insides}
-use Rattle.crn_format.specs.Unpacking.{Unpacking, unpacked, declined, lengthsOf, levelStands, levelSegment, gridOf, gridFits, reach, planesOf, shadesOf, ended, levelReading, drawnLevel, unpacking}
+use Rattle.crn_format.specs.Unpacking.{Unpacking, unpacked, declined, levelStands, levelSegment, gridOf, gridFits, reach, shadesOf, ended, levelReading, drawnLevel, unpacking}
 use Rattle.crn_format.specs.declared.Record.{Record}
 use Rattle.crn_format.specs.declared.Grid.{Grid}
 use Rattle.crn_laws.specs.Levels.{unpackingIn}
 use Rattle.crn_laws_total.specs.Refusals.{among, inDraws}
 use Rattle.crn_laws_total.proofs.Numbers.{none-in-both, not-zero}
-use Rattle.crn_laws_total.proofs.Refusing.{Stops, budget-stops}
-use Rattle.crn_laws_total.proofs.LevelReadings.{level-refuses}
+use Rattle.crn_laws_total.proofs.Refusing.{Stops}
+use Rattle.crn_laws_total.proofs.Level.{level-stops}
 use Rattle.crn_promises.specs.Calls.{LevelCall, LevelsCall, answerIn}
 use Rattle.crn_promises.specs.Promises.{LevelSame, LevelsSame, Ready, LevelReady, LevelsReady}
 use Rattle.crn_promises.proofs.Levels.{levels-total}
@@ -44,9 +43,7 @@ module _ (r : Record) (file : List ℕ) (p : Palettes) (n pitch distance budget 
   unfolding drawnLevel
   in-stream =
       by-run (run (budgeted (fromBits (levelSegment file (r .header) n))) (levelReading r g) (record { place = start; left = budget }))
-      (budget-stops (λ m. among m inDraws) refl refl (levelSegment file (r .header) n) refl (levelReading r g)
-      (level-refuses (λ m. among m inDraws) refl refl (lengthsOf (r .tables .«chunk_encoding»)) (planesOf r) (insides g 0 (chunkCount g)))
-      (record { place = start; left = budget }))
+      (level-stops r (levelSegment file (r .header) n) g budget)
 
   ready-not : Ready r p → Not (unpacking r file p n pitch distance budget dst)
   unfolding unpacking

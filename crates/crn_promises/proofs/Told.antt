@@ -13,8 +13,8 @@ use Rattle.crn_format.specs.Reading.{Step, got, refused, Spending, start, run, 
 use Rattle.crn_format.specs.Header.{Kind, DXT1, DXT5, DXT5A, DXN, unknown, kindOf, blockBytes, withinLimits}
 use Rattle.crn_format.specs.Opening.{Palettes}
 use Rattle.crn_format.specs.Level.{Chunk}
-use Rattle.crn_format.specs.Grid.{pixels, blocks, chunkCount, insides, painted, blank}
-use Rattle.crn_format.specs.Unpacking.{Unpacking, unpacked, declined, lengthsOf, levelStands, levelSegment, gridOf, gridFits, reach, planesOf, shadesOf, ended, levelReading, drawnLevel, unpacking}
+use Rattle.crn_format.specs.Grid.{pixels, blocks, painted, blank}
+use Rattle.crn_format.specs.Unpacking.{Unpacking, unpacked, declined, levelStands, levelSegment, gridOf, gridFits, reach, shadesOf, ended, levelReading, drawnLevel, unpacking}
 use Rattle.crn_format.specs.declared.Header.{Header}
 use Rattle.crn_format.specs.declared.Record.{Record}
 use Rattle.crn_format.specs.declared.Grid.{Grid}
@@ -28,8 +28,8 @@ use Rattle.crn_laws.proofs.Ending.{triedIn}
 use Rattle.crn_laws_total.specs.Refusals.{among, inDraws}
 use Rattle.crn_laws_total.specs.Ends.{gridAt}
 use Rattle.crn_laws_total.proofs.Numbers.{among-second, among-either}
-use Rattle.crn_laws_total.proofs.Refusing.{Stops, budget-stops}
-use Rattle.crn_laws_total.proofs.LevelReadings.{level-refuses}
+use Rattle.crn_laws_total.proofs.Refusing.{Stops}
+use Rattle.crn_laws_total.proofs.Level.{level-stops}
 use Rattle.crn_laws_total.proofs.Close.{told-reach}
 use Rattle.crn_promises.specs.Calls.{LevelCall, givenBy, answerIn}
 use Rattle.crn_promises.specs.Promises.{LevelSame, Ready, leftToRefuse, LevelTold}
@@ -129,20 +129,16 @@ module _ (r : Record) (file : List ℕ) (p : Palettes) (n budget : ℕ) (dst : L
   unfolding drawnLevel
   by-segment true e =
       by-run e (run (budgeted (fromBits (levelSegment file (r .header) n))) (levelReading r g) (record { place = start; left = budget }))
-      (passed-drawn r file p n (z .pitch) (z .distance) budget dst
-      (record {
+      (passed-drawn r file p n (z .pitch) (z .distance) budget dst (record {
         limits = ready .limits;
         tables = ready .tables;
         number = number;
         stands = e;
         palettes = ready .palettes;
         grid = fits;
-        room
-            = le-leb _ _ holds;
+        room = le-leb _ _ holds;
       }))
-      (budget-stops (λ m. among m inDraws) refl refl (levelSegment file (r .header) n) refl (levelReading r g)
-      (level-refuses (λ m. among m inDraws) refl refl (lengthsOf (r .tables .«chunk_encoding»)) (planesOf r) (insides g 0 (chunkCount g)))
-      (record { place = start; left = budget }))
+      (level-stops r (levelSegment file (r .header) n) g budget)
   by-segment false e = subst Told (sym is) refl
     where
       is : unpacking r file p n (z .pitch) (z .distance) budget dst ≡ declined 4 0 0 dst
