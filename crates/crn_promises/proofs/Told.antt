@@ -99,8 +99,7 @@ module _ (r : Record) (file : List ℕ) (p : Palettes) (n budget : ℕ) (dst : L
         segment = e;
         palettes = ready .palettes;
         grid = fits;
-        room
-            = holds;
+        room = holds;
       }
 
   not-15 : (e : levelStands file (r .header) n ≡ true) → RefusedBy 15 (unpackingIn v budget) → ⊥

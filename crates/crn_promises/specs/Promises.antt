@@ -161,11 +161,14 @@ pub record Ready (r : Record) (p : Palettes) : Type 0 where
 abbrev pub OpenReady : OpenCall → Type 0
 OpenReady c = c .answer .refusal ≡ 0 → Ready (c .answer .file) (c .after)
 
+abbrev pub unready : List ℕ
+unready = 2 ∷ 5 ∷ 6 ∷ []
+
 abbrev pub LevelReady : LevelCall → Type 0
-LevelReady c = Ready (c .given .opened) (c .given .palettes) → among (c .answer .refusal) (2 ∷ 5 ∷ 6 ∷ []) ≡ true → ⊥
+LevelReady c = Ready (c .given .opened) (c .given .palettes) → among (c .answer .refusal) unready ≡ true → ⊥
 
 abbrev pub LevelsReady : LevelsCall → Type 0
-LevelsReady c = Ready (c .opened) (c .palettes) → among (c .answer .refusal) (2 ∷ 5 ∷ 6 ∷ []) ≡ true → ⊥
+LevelsReady c = Ready (c .opened) (c .palettes) → among (c .answer .refusal) unready ≡ true → ⊥
 
 -- with the palettes' words that are told of the file's header no opening is refused by 5
 pub record Words (h : Header) (lent : Palettes) : Type 0 where
