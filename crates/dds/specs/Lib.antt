@@ -1,0 +1,2 @@
+-- What a DDS file is, after Microsoft's description of DDS_HEADER and DDS_PIXELFORMAT.
+pub mod Header

@@ -1,0 +1,1 @@
+// A DDS file written from an opened one.

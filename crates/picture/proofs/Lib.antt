@@ -1,0 +1,5 @@
+pub mod Words
+pub mod Out
+pub mod Carried
+pub mod Small
+pub mod Chains
