@@ -1,5 +1,6 @@
 pub mod Words
+pub mod Setting
 pub mod Out
 pub mod Carried
-pub mod Small
 pub mod Chains
+pub mod Bytes

@@ -1,4 +1,11 @@
 // What containers of blocks have in common: a picture's surfaces, where they stand, and how a writing ends.
+mod sizes; // which formats go out, and how many bytes a face has
+mod put; // bytes and words, written
+
+pub use put::put_bytes;
+pub use put::put_words;
+pub use sizes::chain_bytes;
+pub use sizes::goes_out;
 
 // A picture in blocks: the format by its CRN number, the sides in pixels, the levels, the faces.
 pub struct Picture {
