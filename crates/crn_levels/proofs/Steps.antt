@@ -1,76 +1,29 @@
 -- One level more: from how far it has come to how far it comes, or to its refusal.
 use Prim.Native.Nat.{ℕ, zero, suc, _+_, _*_, _-_, _≤_, _<_}
 use mathlib.Core.Path.{_≡_, refl, sym, ap, _∙_}
-use mathlib.Core.Bool.{Bool, true, false}
+use mathlib.Core.Bool.{true, false}
 use mathlib.Core.List.{List, [], _++_, append-nil}
 use native.Mathlib.Omega.{arith}
-use native.Mathlib.Nat.{suc-mul, mul-le-mul}
 use lib.ListN.{length, take, drop, length-drop}
 use lib.Seq.{take-all, drop-length}
 use borrow.Author.Tests.{leb-true, le-ltb}
 use borrow.Rule.Slice.PartMut.{putMid}
-use Rattle.crn_format.specs.Choice.{pick}
-use Rattle.crn_format.specs.Reading.{Step, got, refused, Spending, start, run, fromBits, budgeted}
-use Rattle.crn_format.specs.Header.{Kind, DXT1, DXT5, DXT5A, DXN, unknown, kindOf, withinLimits}
-use Rattle.crn_format.specs.Level.{Chunk}
-use Rattle.crn_format.specs.Grid.{Shade, isCutout, rowCutouts, faceCutouts, cutouts, blockAt}
+use Rattle.crn_format.specs.Header.{withinLimits}
 use Rattle.crn_format.specs.Opening.{Palettes}
-use Rattle.crn_format.specs.Unpacking.{Unpacking, unpacked, declined, tablesHold, levelSegment, shadesOf, levelReading, gridOf, reach, cutoutCount, ended, drawnLevel, unpacking}
+use Rattle.crn_format.specs.Unpacking.{Unpacking, unpacked, declined, tablesHold, gridOf, reach, unpacking}
 use Rattle.crn_format.specs.declared.Header.{Header}
 use Rattle.crn_format.specs.declared.Record.{Record}
 use Rattle.crn_format.specs.declared.Grid.{Grid}
-use Rattle.crn_format.proofs.Passing.{passed-drawn, accepted-passed}
-use Rattle.crn_formats.proofs.Limited.{limited}
+use Rattle.crn_format.proofs.Passing.{accepted-passed}
 use Rattle.crn_drawing.specs.Unpacks.{answerOf, Unpacks}
 use Rattle.crn_drawing.specs.declared.Unpacked.the-variants.{Blocks, Refused}
 use Rattle.crn_sizes.specs.Sizes.{levelSizes, closeSizes}
 use Rattle.crn_sizes.specs.declared.LevelSizes.{LevelSizes}
-use Rattle.crn_sizes.proofs.Few.{few}
+use Rattle.crn_sizes.proofs.Counts.{mostCutouts, cutouts-few}
 use Rattle.crn_sizes.proofs.Enough.{sizes-so, bytes-needed}
 use Rattle.crn_levels.specs.declared.Several.{Several}
 use Rattle.crn_levels.specs.Several.{Far, Ended, begun, further, onward, severalFrom, severalOf, Gives}
 use Rattle.crn_levels.specs.Answers.{noneBy}
-
--- ---- no more cut-outs than blocks
-
-one-more : {k n : ℕ} (b : Bool) → k ≤ n → k + pick b 1 0 ≤ suc n
-one-more true h = omega arith
-one-more false h = omega arith
-
-row-few : (block : ℕ → ℕ → ℕ → List ℕ) (f y n : ℕ) → rowCutouts block f y n ≤ n
-unfolding rowCutouts
-row-few block f y zero = omega arith
-row-few block f y (suc n) = one-more (isCutout (block f n y)) (row-few block f y n)
-
-face-few : (g : Grid) (block : ℕ → ℕ → ℕ → List ℕ) (f n : ℕ) → faceCutouts g block f n ≤ n * g .columns
-unfolding faceCutouts
-face-few g block f zero = omega arith
-face-few g block f (suc n) = omega (arith, suc-mul n (g .columns), face-few g block f n, row-few block f n (g .columns))
-
-all-few : (g : Grid) (block : ℕ → ℕ → ℕ → List ℕ) (n : ℕ) → cutouts g block n ≤ n * (g .rows * g .columns)
-unfolding cutouts
-all-few g block zero = omega arith
-all-few g block (suc n) = omega (arith, suc-mul n (g .rows * g .columns), all-few g block n, face-few g block n (g .rows))
-
--- of six faces of 1,024 by 1,024 blocks
-abbrev pub mostCutouts : ℕ
-mostCutouts = 6291456
-
-module _ (g : Grid) (faces : g .faces ≤ 6) (columns : g .columns ≤ 1024) (rows : g .rows ≤ 1024) where
-  count-few : (k : Kind) (block : ℕ → ℕ → ℕ → List ℕ) → cutoutCount k g block ≤ mostCutouts
-  unfolding cutoutCount
-  count-few DXT1 block = omega (arith, all-few g block (g .faces), mul-le-mul faces (mul-le-mul rows columns))
-  count-few DXT5 block = omega arith
-  count-few DXT5A block = omega arith
-  count-few DXN block = omega arith
-  count-few unknown block = omega arith
-
-  ended-few : (k : Kind) (ps : List Shade) (budget : ℕ) (dst : List ℕ) (x : Step Spending (List Chunk)) (s c : ℕ) (e : List ℕ)
-      → ended k g ps budget dst x ≡ unpacked s c e → c ≤ mostCutouts
-  unfolding ended
-  ended-few k ps budget dst (got cs w) s c e h =
-      let z : cutoutCount k g (blockAt g ps cs) ≡ c = cc in omega (arith, count-few k (blockAt g ps cs))
-  ended-few k ps budget dst (refused n w) s c e h = let z : _≡_ {A = ℕ} 0 1 = cc in absurd (omega arith)
 
 -- ---- a level that went through
 
@@ -84,18 +37,14 @@ module _ (r : Record) (file : List ℕ) (p : Palettes) (n budget : ℕ) (dst : L
 
   -- its bytes are there, and its cut-outs few
   pub through : (s c : ℕ) (e : List ℕ) → unpacking r file p n (z .pitch) (z .distance) budget dst ≡ unpacked s c e → (z .bytes ≤ length dst) × (c ≤ mostCutouts)
-  unfolding drawnLevel gridOf
+  unfolding gridOf
   through s c e h =
       let a = accepted-passed r file p n (z .pitch) (z .distance) budget dst h in
-      let l = limited (r .header) (a .limits) in
       let room : reach g ≤ length dst = leb-true _ _ (a .room) in
       let so : z ≡ closeSizes (r .header) n = is ∙ sizes-so (r .header) n (a .limits) (a .number) in
       let all : z .bytes ≤ reach g = rw so (needed (r .header) n) in (
         omega arith,
-        ended-few g (l .faces) (few (r .header .width) n (l .width)) (few (r .header .height) n (l .height)) (kindOf (r .header .format))
-            (shadesOf (kindOf (r .header .format)) p) budget dst
-            (run (budgeted (fromBits (levelSegment file (r .header) n))) (levelReading r g) (record { place = start; left = budget })) s c e
-            (sym (passed-drawn r file p n (z .pitch) (z .distance) budget dst a) ∙ h),
+        cutouts-few r file p n (z .pitch) (z .distance) budget dst s c e h,
       )
 
   pub went : {left s c : ℕ} {e : List ℕ} → Unpacks (unpacking r file p n (z .pitch) (z .distance) budget dst) budget left e (Blocks s c)

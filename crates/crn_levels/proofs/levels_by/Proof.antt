@@ -11,7 +11,8 @@ use Rattle.crn_drawing.specs.Levels.{recordWith, Made}
 use Rattle.crn_drawing.specs.declared.Unpacked.{Unpacked}
 use Rattle.crn_levels.specs.Several.{Far, begun, severalFrom}
 use Rattle.crn_levels.specs.Answers.{stoppedBy}
-use Rattle.crn_levels.proofs.Steps.{mostCutouts, far, at-first, moved, rest-whole, put-whole, went, on, off, from-start, all-through}
+use Rattle.crn_sizes.proofs.Counts.{mostCutouts}
+use Rattle.crn_levels.proofs.Steps.{far, at-first, moved, rest-whole, put-whole, went, on, off, from-start, all-through}
 use Rattle.crn_levels.proofs.levels_by.Statement.{statement}
 use Rattle.crn_levels.proofs.levels_by.Tie as tie
 
