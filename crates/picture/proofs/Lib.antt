@@ -4,3 +4,4 @@ pub mod Out
 pub mod Carried
 pub mod Chains
 pub mod Bytes
+pub mod Refusals
