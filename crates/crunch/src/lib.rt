@@ -1,5 +1,5 @@
-// The public entry (the Rust's crunch.rs): a file opened, and a level unpacked, with the record whole or by its parts; and all its levels in one
-// call. None asks anything of its caller.
+// The public entry (the Rust's crunch.rs): a file opened, and a level unpacked, with the record whole or by its parts; all its levels in one
+// call; and all of them as a DDS file. None asks anything of its caller.
 mod whole; // the record whole
 
 pub use crn_level::Unpacked;
@@ -10,4 +10,8 @@ pub use crn_levels::unpack_levels;
 pub use crn_opening::Opened;
 pub use crn_opening::OpenedHeader;
 pub use crn_opening::open_into;
+pub use dds::dds_bytes;
+pub use dds::write_dds;
+pub use picture::Needed;
+pub use picture::Written;
 pub use whole::open;

@@ -8,11 +8,16 @@ ghost use Rattle.crn_opening.specs.Opens.{openedBy, Opens};
 use crn_decomp::Looked;
 use crunch::OpenedHeader;
 
+mod containers; // DDS files written
 mod level; // a level unpacked
 mod sizes; // the sizes of a host's buffers
 
+pub use containers::crunch_dds_bytes;
+pub use containers::crunch_write_dds_parts;
 pub use crn_levels::Several;
 pub use crn_sizes::LevelSizes;
+pub use crunch::Needed;
+pub use crunch::Written;
 pub use level::Answer;
 pub use level::crunch_unpack_level_parts;
 pub use level::crunch_unpack_levels_parts;
