@@ -8,3 +8,4 @@ pub mod Tables
 pub mod Reader
 pub mod Painting
 pub mod Exports
+pub mod Containers
