@@ -100,12 +100,14 @@ pub fn write_dds<'a>(
     if !tables {
         return none(6);
     }
-    if !goes_out(header.format) {
-        return none(16);
-    }
     let chain = chain_bytes(header);
     let total = total_of(header, chain);
-    if dst.len() < total {
+    let swizzled = !goes_out(header.format);
+    let short = dst.len() < total;
+    if swizzled {
+        return none(16);
+    }
+    if short {
         return none(12);
     }
     let put = put_levels(

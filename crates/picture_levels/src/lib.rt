@@ -77,7 +77,7 @@ fn refused(u: Unpacked, level: u32, symbols: u64) -> LevelsPut
     }
 }
 
-// Faces outermost, after a head of so many bytes; a face's levels have `chain` bytes.
+// Faces outermost, after a head of so many bytes; from a face to the next it is the bytes of all its levels.
 fn put_by_face(
     h: Header,
     s: Sizes,
@@ -89,10 +89,10 @@ fn put_by_face(
     alpha_endpoints: &[u16],
     alpha_selectors: &[u16],
     head: usize,
-    chain: usize,
+    step: usize,
     dst: &mut [u8],
 ) -> LevelsPut
-    requires { ⌜ Tabled h s (now lookup) (now sorted) ⌝ ∗ ⌜ chain ≡ «chainOf» (pictureOf h) ⌝ ∗ ⌜ head + h .faces * chain ≤ length (now dst) ⌝ }
+    requires { ⌜ Tabled h s (now lookup) (now sorted) ⌝ ∗ ⌜ step ≡ «chainOf» (pictureOf h) ⌝ ∗ ⌜ head + h .faces * step ≤ length (now dst) ⌝ }
     ensures { λ r. ⌜ ((t : Tables) → Made (recordWith h t) s (now (lookup .entry)) (now (sorted .entry)) → Puts (putFrom (h .levels) (byFace head (pictureOf h)) (recordWith h t) (now (file .entry)) (lentOf (now («color_endpoints» .entry)) (now («color_selectors» .entry)) (now («alpha_endpoints» .entry)) (now («alpha_selectors» .entry))) 0 nothing (now (dst .entry))) (now (dst .entry)) (now (dst .exit)) r) ⌝ }
 {
     let mut level = 0;
@@ -114,7 +114,7 @@ fn put_by_face(
             alpha_selectors,
             level,
             z.pitch,
-            chain,
+            step,
             &mut budget,
             &mut dst[from..],
         );

@@ -38,12 +38,12 @@ record Going (h : Header) (s : Sizes) (lookup sorted file : List ℕ) (p : Palet
       ≡ putFrom (h .levels) (byFace head (pictureOf h)) (recordWith h t) file p 0 nothing dst₀
 
 abbrev Inv-loop : tie.InvT-loop
-Inv-loop h s lookup sorted file color-endpoints color-selectors alpha-endpoints alpha-selectors head chain dst₀ level₀ from₀ symbols₀ cutouts₀ dst level from symbols cutouts =
+Inv-loop h s lookup sorted file color-endpoints color-selectors alpha-endpoints alpha-selectors head step dst₀ level₀ from₀ symbols₀ cutouts₀ dst level from symbols cutouts =
     Going h s lookup sorted file (lentOf color-endpoints color-selectors alpha-endpoints alpha-selectors) head dst₀ dst level from symbols
     cutouts
 
 abbrev μ-loop : tie.MeasureT-loop
-μ-loop h s lookup sorted file color-endpoints color-selectors alpha-endpoints alpha-selectors head chain dst₀ level₀ from₀ symbols₀ cutouts₀ dst level from symbols cutouts =
+μ-loop h s lookup sorted file color-endpoints color-selectors alpha-endpoints alpha-selectors head step dst₀ level₀ from₀ symbols₀ cutouts₀ dst level from symbols cutouts =
     h .levels - level
 
 -- of a level that is there: its bytes, the room for it, its symbols
