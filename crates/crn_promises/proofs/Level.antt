@@ -4,11 +4,9 @@ use mathlib.Core.Path.{_≡_, refl, sym, ap, _∙_}
 use mathlib.Core.Logic.{inl, inr, _↔_}
 use mathlib.Core.List.{List}
 use native.Mathlib.Omega.{arith}
-use lib.ListN.{length, getD}
-use borrow.Author.Tests.{lt-ltb, le-leb}
 use Rattle.crn_format.specs.Grid.{painted}
 use Rattle.crn_format.specs.Unpacking.{Unpacking, unpacked, declined}
-use Rattle.crn_blocks.specs.Sheet.{In, standing, Room}
+use Rattle.crn_blocks.specs.Sheet.{In, standing}
 use Rattle.crn_drawing.specs.Unpacks.{answerOf, symbolsOf, Unpacks}
 use Rattle.crn_drawing.specs.declared.Unpacked.{Unpacked}
 use Rattle.crn_drawing.specs.declared.Unpacked.the-variants.{Blocks, Refused}
@@ -24,9 +22,9 @@ use Rattle.crn_laws.proofs.Theorems.{accepted-exactly, only-script, blocks-by-s
 use Rattle.crn_laws_total.specs.Refusals.{levelRefusals}
 use Rattle.crn_laws_total.specs.Ends.{LevelEnds}
 use Rattle.crn_laws_total.proofs.Numbers.{not-zero}
-use Rattle.crn_laws_total.proofs.Bytes.{painted-leaves}
 use Rattle.crn_laws_total.proofs.Counted.{stands}
-use Rattle.crn_laws_total.proofs.Level.{level-ends, has-room}
+use Rattle.crn_laws_total.proofs.Level.{level-ends}
+use Rattle.law_containers.proofs.Level.{script-leaves}
 use Rattle.crn_promises.specs.Calls.{LevelCall, answerIn, afterIn}
 use Rattle.crn_promises.specs.Promises.{LevelTotal, LevelSame, Scripted, ByScript, LevelExact}
 
@@ -35,17 +33,7 @@ use Rattle.crn_promises.specs.Promises.{LevelTotal, LevelSame, Scripted,
 module _ (v : Given) (ds : List Draws) where
   pub block-stands : Passes v → (f x y : ℕ) → In (gridIn v) f x y
       → standing (gridIn v) (painted (gridIn v) (blocksBy v ds) (gridIn v .faces) (v .destination)) f x y ≡ blocksBy v ds f x y
-  block-stands c =
-      stands (blocksBy v ds)
-      (painted-leaves (v .destination) room (blocksBy v ds) (λ f x y _. blocks-long v ds f x y) (λ f x y k. getD (blocksBy v ds f x y) k 0)
-      (λ f x y k _. refl))
-      (λ f x y _. blocks-long v ds f x y)
-    where
-      room : Room (gridIn v) (length (v .destination))
-      room =
-          has-room (v .opened) (v .file) (v .palettes) (v .number) (v .pitch) (v .distance) 0 (v .destination) (c .limits) (c .tables)
-          (lt-ltb _ _ (c .number)) (c .segment)
-          (c .palettes) (c .grid) (le-leb _ _ (c .room))
+  block-stands c = stands (blocksBy v ds) (script-leaves v c ds) (λ f x y _. blocks-long v ds f x y)
 
 -- ---- the call
 

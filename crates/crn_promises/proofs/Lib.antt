@@ -5,4 +5,5 @@ pub mod Levels
 pub mod Ready
 pub mod Told
 pub mod ToldAll
+pub mod Dds
 pub mod Promises

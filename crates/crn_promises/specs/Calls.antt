@@ -1,6 +1,7 @@
 -- Calls of the entry functions: what each was given, what it answers in document 01's numbers, and what it leaves in what it was lent.
--- One shape serves every function that opens a file, one every function that unpacks a level, one every function that unpacks several:
--- those with the record whole, those with the record by its parts, and those that C and Rust call.
+-- One shape serves every function that opens a file, one every function that unpacks a level, one every function that unpacks several,
+-- one every function that writes a DDS file: those with the record whole, those with the record by its parts, and those that C and Rust
+-- call.
 use Prim.Native.Nat.{ℕ, _+_}
 use mathlib.Core.List.{List}
 use denote.Ref.{RefT, now}
@@ -21,6 +22,8 @@ use Rattle.crunch_abi.specs.Answers.{answerOf}
 use Rattle.crunch_abi.specs.declared.level.Answer.{Answer}
 use Rattle.crn_laws.specs.Levels.{Given}
 use Rattle.crn_laws_total.specs.Ends.{ownOf}
+use Rattle.picture.specs.Writing.{Sums, Stop}
+use Rattle.picture.specs.declared.Written.{Written}
 
 -- A contract says so of every call: what was given, what is answered, and the parameters at exit. The `Post` of a function is its
 -- `ensures` as the checker reads it; its first argument are lifetimes.
@@ -78,6 +81,24 @@ levelOf c k =
     (levelSizes (c .opened .header) (c .first + k) .distance)
     (ownOf (c .opened .header) (c .first) k (c .destination))
 
+-- ---- a DDS file: refusal 0, its bytes, symbols and cut-outs; or the refusal, its level and bit, the symbols drawn, and no bytes and no
+-- cut-outs
+
+pub record DdsCall : Type 0 where
+  pub opened : Record
+  pub file : List ℕ
+  pub palettes : Palettes
+  pub destination : List ℕ
+  pub after : List ℕ
+  pub answer : Written
+
+-- what an answer tells of a file that was written, and of a refusal
+abbrev pub sumsIn : Written → Sums
+sumsIn a = record { symbols = a .symbols; cutouts = a .cutouts }
+
+abbrev pub stopIn : Written → Stop
+stopIn a = record { refusal = a .refusal; level = a .level; bit = a .at; symbols = a .symbols }
+
 -- ---- the functions' parameters: `now` is what a lent slice or number holds, at entry or at exit
 
 abbrev Lent : Type 0
@@ -101,6 +122,10 @@ abbrev SeveralGiven : Type 0
 SeveralGiven =
     Header × (Counts × (Lent × (Lent × (Lent × (Lent × (Lent ×
     (Lent × (Lent × (Lent × (Lent × (Lent × (ℕ × (RefT ℕ × (Lent × Unit {0}))))))))))))))
+
+abbrev DdsGiven : Type 0
+DdsGiven =
+    Header × (Counts × (Lent × (Lent × (Lent × (Lent × (Lent × (Lent × (Lent × (Lent × (Lent × (Lent × (Lent × Unit {0}))))))))))))
 
 -- `open`
 abbrev pub openCall : OpenGiven → Opened → OpenGiven → OpenCall
@@ -166,4 +191,17 @@ levelsCall (h, (c, (t₁, (t₂, (t₃, (t₄, (t₅, (file, (ce, (cs, (ae, (al,
       left = now budget₁;
       after = now dst₁;
       answer = s;
+    }
+
+-- `write_dds`, `crunch_write_dds_parts`
+abbrev pub ddsCall : DdsGiven → Written → DdsGiven → DdsCall
+ddsCall (h, (c, (t₁, (t₂, (t₃, (t₄, (t₅, (file, (ce, (cs, (ae, (al, (dst, _))))))))))))) a
+    (_, (_, (_, (_, (_, (_, (_, (_, (_, (_, (_, (_, (dst₁, _))))))))))))) =
+    record {
+      opened = recordBy h c (now t₁) (now t₂) (now t₃) (now t₄) (now t₅);
+      file = now file;
+      palettes = lentOf (now ce) (now cs) (now ae) (now al);
+      destination = now dst;
+      after = now dst₁;
+      answer = a;
     }

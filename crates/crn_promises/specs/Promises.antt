@@ -1,9 +1,9 @@
 -- The three demands, each as a claim about one call. proofs/Promises.antt has them as theorems over the functions' own contracts.
 use Prim.Native.Nat.{ℕ, _+_, _-_, _≤_, _<_}
 use mathlib.Core.Path.{_≡_}
-use mathlib.Core.Bool.{true}
+use mathlib.Core.Bool.{true, false}
 use mathlib.Core.Logic.{_⊎_, _↔_}
-use mathlib.Core.List.{List, [], _∷_}
+use mathlib.Core.List.{List, [], _∷_, _++_}
 use lib.ListN.{length}
 use Rattle.crn_format.specs.Header.{headerOf, withinLimits}
 use Rattle.crn_format.specs.Grid.{painted}
@@ -24,7 +24,14 @@ use Rattle.crn_laws.specs.Levels.{Given, gridIn, kindIn, segmentIn, unpackingIn
 use Rattle.crn_laws.specs.Blocks.{blocksBy}
 use Rattle.crn_laws_total.specs.Refusals.{among, openingRefusals, levelRefusals}
 use Rattle.crn_laws_total.specs.Ends.{Open, Shut, Accepted, Declined, bytesOf, behind, ownOf, sumOf, SeveralEnds}
-use Rattle.crn_promises.specs.Calls.{OpenCall, LevelCall, LevelsCall, answerIn, afterIn, levelOf}
+use Rattle.picture.specs.Kinds.{goesOut}
+use Rattle.picture.specs.Writing.{writing}
+use Rattle.picture.specs.Answers.{Writes, neededFor}
+use Rattle.picture.specs.declared.Needed.{Needed}
+use Rattle.dds.specs.Header.{ddsOf}
+use Rattle.law_containers.specs.Standing.{Fair, Checked, Writable, earlyNumbers, levelNumbers, Untouched, Zeroed}
+use Rattle.law_containers.specs.Dds.{planOf, Whole}
+use Rattle.crn_promises.specs.Calls.{OpenCall, LevelCall, LevelsCall, DdsCall, answerIn, afterIn, levelOf, sumsIn, stopIn}
 
 -- ---- 1. Total. "Each call ends, checks its own arguments, and answers with blocks or with a numbered refusal." That a call ends and
 -- asks nothing is what a proved function without `requires` is; how it ends:
@@ -201,3 +208,53 @@ LevelsTold c =
     → bytesOf (c .opened .header) (c .first) (countFrom c) ≤ length (c .destination)
     → sumOf (countFrom c) (λ k. levelSizes (c .opened .header) (c .first + k) .symbols) ≤ c .budget
     → (c .answer .refusal ≡ 0) ⊎ (among (c .answer .refusal) leftToRefuse ≡ true)
+
+-- ---- request 1, DDS out: the same promises of a DDS file
+
+-- the same: the answer and the output are the definitions' (picture, dds), for what is written and for what is refused
+abbrev pub DdsSame : DdsCall → Type 0
+DdsSame c = Writes (writing ddsOf (c .opened) (c .file) (c .palettes) (c .destination)) (c .after) (c .answer)
+
+-- total: "Refusals: 2 and 6 on the record first, then 16 any other format, then 12, all before any byte is written; a level's later
+-- refusal zeroes the whole output region" (4, 5, 7, 8, 13 or 14; never 15, since each level has "the full symbol allowance"). `Untouched`
+-- and `Zeroed` say which test failed or which level cannot be unpacked and why, and what the answer's level, bit and symbols are; a
+-- refusal has no bytes and no cut-outs
+pub record DdsTotal (c : DdsCall) : Type 0 where
+  pub number : (c .answer .refusal ≡ 0) ⊎ (among (c .answer .refusal) (earlyNumbers ++ levelNumbers) ≡ true)
+  pub untouched : among (c .answer .refusal) earlyNumbers ≡ true
+      → Untouched (ddsOf (c .opened .header)) (c .opened) (c .destination) (stopIn (c .answer)) (c .after)
+  pub zeroed : among (c .answer .refusal) levelNumbers ≡ true
+      → Zeroed (ddsOf (c .opened .header)) (c .opened) (c .file) (c .palettes) (c .destination) (stopIn (c .answer)) (c .after)
+  pub nothing : (c .answer .refusal ≡ 0 → ⊥) → (c .answer .bytes ≡ 0) × (c .answer .cutouts ≡ 0)
+
+-- exact: "magic, 124-byte header and block data .., faces outermost, each with its levels from large to small. .. The written blocks are
+-- those of demand 3, level by level, each level with the full symbol allowance." Written exactly when the checks pass and every level has
+-- a script, the only one; the symbols and the cut-outs are then those of the scripts
+pub record DdsExact (c : DdsCall) : Type 0 where
+  pub accepted : (c .answer .refusal ≡ 0) ↔
+      Writable (ddsOf (c .opened .header)) (c .opened) (c .file) (c .palettes) (c .destination)
+  pub only : Checked (ddsOf (c .opened .header)) (c .opened) (c .destination) → (l : ℕ) → l < c .opened .header .levels
+      → (cs ds : List Draws) → Fair (planOf (c .opened)) (c .opened) (c .file) (c .palettes) l cs
+      → Fair (planOf (c .opened)) (c .opened) (c .file) (c .palettes) l ds → cs ≡ ds
+  pub written : c .answer .refusal ≡ 0
+      → ((c .answer .level ≡ 0) × (c .answer .at ≡ 0))
+      × Whole (c .opened) (c .file) (c .palettes) (c .destination) (c .answer .bytes) (sumsIn (c .answer)) (c .after)
+
+-- "Write one from an opened file": with the palettes that the opening has left it is not refused by 2, 5 or 6
+abbrev pub DdsReady : DdsCall → Type 0
+DdsReady c = Ready (c .opened) (c .palettes) → among (c .answer .refusal) unready ≡ true → ⊥
+
+-- of a format that goes out, with as many bytes as are told of the header, only a level's segment (4) or stream can refuse it
+abbrev pub DdsTold : DdsCall → Type 0
+DdsTold c =
+    Ready (c .opened) (c .palettes) → goesOut (c .opened .header .format) ≡ true
+    → neededFor ddsOf (c .opened .header) .bytes ≤ length (c .destination)
+    → (c .answer .refusal ≡ 0) ⊎ (among (c .answer .refusal) leftToRefuse ≡ true)
+
+-- what is told: 2 or 16, as a writing would be refused, and no bytes; or the bytes of the whole file
+pub record BytesTotal (h : Header) (a : Needed) : Type 0 where
+  pub number : among (a .refusal) (0 ∷ 2 ∷ 16 ∷ []) ≡ true
+  pub limits : (a .refusal ≡ 2) ↔ (withinLimits h ≡ false)
+  pub format : (a .refusal ≡ 16) ↔ ((withinLimits h ≡ true) × (goesOut (h .format) ≡ false))
+  pub told : a .refusal ≡ 0 → a .bytes ≡ ddsOf h .plan .total
+  pub nothing : (a .refusal ≡ 0 → ⊥) → a .bytes ≡ 0

@@ -1,8 +1,9 @@
 -- By which numbers a level is refused in a container: 4, 5, 7, 8, 13 or 14, and why; with its full allowance never by 15. Assumes nothing.
-use Prim.Native.Nat.{ℕ, _<_}
+use Prim.Native.Nat.{ℕ, _≤_, _<_}
 use mathlib.Core.Path.{_≡_, refl, sym, subst, _∙_}
 use mathlib.Core.Bool.{Bool, true, false, false≢true}
-use mathlib.Core.List.{List, [], _∷_}
+use mathlib.Core.Logic.{⊎-elim}
+use mathlib.Core.List.{List, [], _∷_, _++_}
 use native.Mathlib.Omega.{arith}
 use borrow.Author.Tests.{lt-ltb}
 use Rattle.crn_format.specs.Reading.{Step, got, refused, Place, start}
@@ -13,26 +14,27 @@ use Rattle.crn_format.specs.Grid.{chunkCount, insides}
 use Rattle.crn_format.specs.Unpacking.{lengthsOf, planesOf, tablesHold, levelStands, palettesReach, declined, unpacking}
 use Rattle.crn_format.specs.declared.Record.{Record}
 use Rattle.crn_laws.specs.Scripts.{Draws}
-use Rattle.crn_laws.specs.Levels.{Given, gridIn, segmentIn, unpackingIn, Passes, ScriptOf}
+use Rattle.crn_laws.specs.Levels.{Given, gridIn, segmentIn, unpackingIn, Passes, ScriptOf, allowed}
 use Rattle.crn_laws.proofs.Ending.{reading, ran, answered, with-enough, few-tried, never}
-use Rattle.crn_laws.proofs.Theorems.{accepted-by-told, told-allowed}
+use Rattle.crn_laws.proofs.Theorems.{exact-acceptance, told-allowed}
 use Rattle.crn_laws_total.specs.Refusals.{among}
-use Rattle.crn_laws_total.proofs.Numbers.{among-second}
+use Rattle.crn_laws_total.proofs.Numbers.{among-first, among-second}
 use Rattle.crn_laws_total.proofs.Refusing.{Stops as StopsBy, bits-stop}
 use Rattle.crn_laws_total.proofs.LevelReadings.{level-refuses}
 use Rattle.picture.specs.Surfaces.{Plan, pictureOf}
 use Rattle.picture.specs.Writing.{Stop, Container}
-use Rattle.law_containers.specs.Standing.{givenAt, Sound, Fair, Stops, fullStream, levelNumbers, Checked, earlyNumbers}
+use Rattle.law_containers.specs.Standing.{givenAt, Sound, Fair, Stops, fullStream, levelNumbers, Checked, earlyNumbers, Refuses}
 use Rattle.law_containers.specs.Standing.{Unfair, segment, palettes, script, Early, limits, tables, format, room}
 use Rattle.law_containers.proofs.Level.{full}
 use Rattle.law_containers.proofs.Passing.{passes}
 
--- ---- a level that passes its checks, with the symbols that are told for it
+-- ---- a level that passes its checks, with a budget of its allowance at least
 
 abbrev ok : ℕ → Bool
 ok n = among n fullStream
 
-module _ (v : Given) (c : Passes v) {k s bit : ℕ} {after : List ℕ} (is : unpackingIn v (full v) ≡ declined k s bit after) where
+module _ (v : Given) (c : Passes v) (budget : ℕ) (ample : allowed v ≤ budget) {k s bit : ℕ} {after : List ℕ}
+    (is : unpackingIn v budget ≡ declined k s bit after) where
   stream : StopsBy ok (ran v)
   stream =
       bits-stop ok refl refl (segmentIn v) (reading v)
@@ -43,11 +45,11 @@ module _ (v : Given) (c : Passes v) {k s bit : ℕ} {after : List ℕ} (is : unp
   by-end (got cs w) stops e = absurd (never (sym e))
   by-end (refused n w) stops e = let z : n ≡ k = cc in subst (λ (m : ℕ). ok m ≡ true) z stops
 
-  in-stream : among k fullStream ≡ true
-  in-stream = by-end (ran v) stream (sym (with-enough v c (full v) (omega (arith, few-tried v, told-allowed v c))) ∙ is)
+  pub in-stream : among k fullStream ≡ true
+  in-stream = by-end (ran v) stream (sym (with-enough v c budget (omega (arith, few-tried v))) ∙ is)
 
   no-script : (ds : List Draws) → ScriptOf v ds → ⊥
-  no-script ds so = never (sym is ∙ accepted-by-told v c .1 (ds, so) .3)
+  no-script ds so = never (sym is ∙ exact-acceptance v c budget ample .1 (ds, so) .3)
 
 -- ---- a level in its place
 
@@ -79,7 +81,8 @@ module _ (pl : Plan) (r : Record) (file : List ℕ) (p : Palettes) {head : ℕ} 
           subst (Unfair pl r file p l) z (palettes ea eb)
       by true true ea eb =
           let c = passes pl r file p sound within held some l (stops .number) (stops .output) (stops .long) ea eb in
-          script ea eb (in-stream v c is) (no-script v c is)
+          let ample : allowed v ≤ full v = omega (arith, told-allowed v c) in
+          script ea eb (in-stream v c (full v) ample is) (no-script v c (full v) ample is)
 
 module _ {pl : Plan} {r : Record} {file : List ℕ} {p : Palettes} {l : ℕ} where
   -- so it is one of six
@@ -108,3 +111,11 @@ module _ {c : Container} {r : Record} {dst : List ℕ} where
   not-checked (tables a b) w = false≢true (sym b ∙ w .tables)
   not-checked (format a b d) w = false≢true (sym d ∙ w .out)
   not-checked (room a b d e) w = omega (arith, e, w .room)
+
+-- ---- all of them
+
+pub refused-number : {c : Container} {r : Record} {file : List ℕ} {p : Palettes} {dst after : List ℕ} {s : Stop}
+    → Refuses c r file p dst s after → among (s .refusal) (earlyNumbers ++ levelNumbers) ≡ true
+refused-number {s = s} e =
+    ⊎-elim (λ u. among-first (s .refusal) earlyNumbers levelNumbers (early-number (u .why)))
+    (λ z. among-second (s .refusal) earlyNumbers levelNumbers (level-number (z .why))) e
