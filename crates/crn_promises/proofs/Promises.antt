@@ -1,10 +1,10 @@
 -- The three promises, as theorems over the own contracts of the functions that people call. `Says X.Post (λ a r e. CLAIM ..)` is read:
 -- whatever X is given (a), where it answers r and leaves e as its contract allows, CLAIM holds. The claims are in specs/Promises.antt;
 -- what a call is, in specs/Calls.antt. Each theorem is proved by the law of its file: Look, Opening, Level, Levels, Ready, Told,
--- ToldAll. The second promise stands first, since the others follow from it.
+-- ToldAll, Dds. The second promise stands first, since the others follow from it.
 --
--- `open`, `unpack_level` and `unpack_levels` are what `crunch` hands out; `open_into` and `unpack_level_by` are the same with the record
--- by its parts; those named `crunch_..` are what C and Rust call.
+-- `open`, `unpack_level`, `unpack_levels`, `write_dds` and `dds_bytes` are what `crunch` hands out; `open_into` and `unpack_level_by` are
+-- the same with the record by its parts; those named `crunch_..` are what C and Rust call.
 use mathlib.Core.Path.{_≡_, refl}
 use denote.Ref.{now}
 use Rattle.crunch.proofs.«open».Reads as open-call
@@ -12,16 +12,23 @@ use Rattle.crn_opening.proofs.open_into.Reads as open-into
 use Rattle.crn_level.proofs.unpack_level.Reads as unpack-level
 use Rattle.crn_level.proofs.unpack_level_by.Reads as unpack-level-by
 use Rattle.crn_levels.proofs.unpack_levels.Reads as unpack-levels
+use Rattle.dds.proofs.write_dds.Reads as write-dds
+use Rattle.dds.proofs.dds_bytes.Reads as dds-bytes
 use Rattle.crunch_abi.proofs.crunch_look.Reads as crunch-look
 use Rattle.crunch_abi.proofs.crunch_open_parts.Reads as crunch-open-parts
 use Rattle.crunch_abi.proofs.crunch_palette_words.Reads as crunch-palette-words
 use Rattle.crunch_abi.proofs.crunch_level_sizes.Reads as crunch-level-sizes
 use Rattle.crunch_abi.proofs.crunch_unpack_level_parts.Reads as crunch-unpack-level-parts
 use Rattle.crunch_abi.proofs.crunch_unpack_levels_parts.Reads as crunch-unpack-levels-parts
+use Rattle.crunch_abi.proofs.crunch_write_dds_parts.Reads as crunch-write-dds-parts
+use Rattle.crunch_abi.proofs.crunch_dds_bytes.Reads as crunch-dds-bytes
 use Rattle.crn_sizes.specs.Sizes.{levelSizes}
+use Rattle.picture.specs.Answers.{neededFor}
+use Rattle.dds.specs.Header.{ddsOf}
 use Rattle.crunch_abi.specs.Sizes.{paletteWords}
-use Rattle.crn_promises.specs.Calls.{Says, openCall, openPartsCall, levelCall, levelByCall, levelPartsCall, levelsCall}
+use Rattle.crn_promises.specs.Calls.{Says, openCall, openPartsCall, levelCall, levelByCall, levelPartsCall, levelsCall, ddsCall}
 use Rattle.crn_promises.specs.Promises.{LookTotal, OpenTotal, LevelTotal, LevelsTotal, OpenSame, LevelSame, LevelsSame, LevelExact, LevelsExact, OpenReady, LevelReady, LevelsReady, OpenTold, LevelTold, LevelsTold}
+use Rattle.crn_promises.specs.Promises.{DdsSame, DdsTotal, DdsExact, DdsReady, DdsTold, BytesTotal}
 use Rattle.crn_promises.proofs.Look as look
 use Rattle.crn_promises.proofs.Opening as opening
 use Rattle.crn_promises.proofs.Level as level
@@ -29,6 +36,7 @@ use Rattle.crn_promises.proofs.Levels as levels
 use Rattle.crn_promises.proofs.Ready as ready
 use Rattle.crn_promises.proofs.Told as told
 use Rattle.crn_promises.proofs.ToldAll as told-all
+use Rattle.crn_promises.proofs.Dds as dds
 
 -- ---- 2. THE SAME. "Each accepted file gives the same palettes and, for one face, the same block bytes as the Rust. What we prove
 -- against is written from the published crn_decomp.h." The answer and all that is left are the definitions' (crn_format), for accepted
@@ -169,3 +177,44 @@ unpack-levels-told κ a r e p = told-all.levels-told (levelsCall a r e) p
 
 pub crunch-unpack-levels-parts-told : Says crunch-unpack-levels-parts.Post (λ a r e. LevelsTold (levelsCall a r e))
 crunch-unpack-levels-parts-told κ a r e p = told-all.levels-told (levelsCall a r e) p
+
+-- ---- REQUEST 1, DDS OUT. "Write one from an opened file: magic, 124-byte header and block data .., faces outermost, each with its levels
+-- from large to small. .. The written blocks are those of demand 3, level by level, each level with the full symbol allowance. Refusals: 2
+-- and 6 on the record first, then 16 any other format, then 12, all before any byte is written; a level's later refusal zeroes the whole
+-- output region."
+
+pub write-dds-same : Says write-dds.Post (λ a r e. DdsSame (ddsCall a r e))
+write-dds-same κ a r e p = p
+
+pub crunch-write-dds-parts-same : Says crunch-write-dds-parts.Post (λ a r e. DdsSame (ddsCall a r e))
+crunch-write-dds-parts-same κ a r e p = p
+
+pub write-dds-total : Says write-dds.Post (λ a r e. DdsTotal (ddsCall a r e))
+write-dds-total κ a r e p = dds.dds-total (ddsCall a r e) p
+
+pub crunch-write-dds-parts-total : Says crunch-write-dds-parts.Post (λ a r e. DdsTotal (ddsCall a r e))
+crunch-write-dds-parts-total κ a r e p = dds.dds-total (ddsCall a r e) p
+
+pub write-dds-exact : Says write-dds.Post (λ a r e. DdsExact (ddsCall a r e))
+write-dds-exact κ a r e p = dds.dds-exact (ddsCall a r e) p
+
+pub crunch-write-dds-parts-exact : Says crunch-write-dds-parts.Post (λ a r e. DdsExact (ddsCall a r e))
+crunch-write-dds-parts-exact κ a r e p = dds.dds-exact (ddsCall a r e) p
+
+pub write-dds-ready : Says write-dds.Post (λ a r e. DdsReady (ddsCall a r e))
+write-dds-ready κ a r e p = dds.dds-ready (ddsCall a r e) p
+
+pub crunch-write-dds-parts-ready : Says crunch-write-dds-parts.Post (λ a r e. DdsReady (ddsCall a r e))
+crunch-write-dds-parts-ready κ a r e p = dds.dds-ready (ddsCall a r e) p
+
+pub dds-bytes-so : Says dds-bytes.Post (λ (header, _) r e. (r ≡ neededFor ddsOf header) × BytesTotal header r)
+dds-bytes-so κ (header, _) r e p = (p, dds.bytes-total header r p)
+
+pub crunch-dds-bytes-so : Says crunch-dds-bytes.Post (λ (header, _) r e. (r ≡ neededFor ddsOf header) × BytesTotal header r)
+crunch-dds-bytes-so κ (header, _) r e p = (p, dds.bytes-total header r p)
+
+pub write-dds-told : Says write-dds.Post (λ a r e. DdsTold (ddsCall a r e))
+write-dds-told κ a r e p = dds.dds-told (ddsCall a r e) p
+
+pub crunch-write-dds-parts-told : Says crunch-write-dds-parts.Post (λ a r e. DdsTold (ddsCall a r e))
+crunch-write-dds-parts-told κ a r e p = dds.dds-told (ddsCall a r e) p
