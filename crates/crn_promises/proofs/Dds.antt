@@ -19,6 +19,7 @@ use Rattle.picture.specs.Writing.{Container, Writing, written, refused, writing
 use Rattle.picture.specs.Answers.{Writes, neededFor}
 use Rattle.picture.specs.declared.Written.{Written}
 use Rattle.picture.specs.declared.Needed.{Needed}
+use Rattle.picture.proofs.Refusals.{needed-so}
 use Rattle.dds.specs.Header.{ddsOf}
 use Rattle.law_containers.specs.Standing.{fullStream, Unfair, segment, palettes, script, Checked, Early, limits, tables, format, room}
 use Rattle.law_containers.specs.Standing.{Fair, earlyNumbers, levelNumbers}
@@ -114,10 +115,6 @@ dds-ready c s ready h =
     (λ e. none-in-both (c .answer .refusal) leftToRefuse unready refl (level-left ready (t .zeroed e .why)) h)
     (among-either (c .answer .refusal) earlyNumbers levelNumbers m)) (t .number)
 
-told-bytes : (h : Header) → withinLimits h ≡ true → goesOut (h .format) ≡ true → neededFor ddsOf h .bytes ≡ ddsOf h .plan .total
-unfolding neededFor
-told-bytes h within out = rw (within, out)
-
 pub dds-told : (c : DdsCall) → DdsSame c → DdsTold c
 dds-told c s ready out fits =
     let t = dds-total c s in
@@ -125,7 +122,7 @@ dds-told c s ready out fits =
       limits = ready .limits;
       tables = ready .tables;
       out = out;
-      room = omega (arith, told-bytes (c .opened .header) (ready .limits) out);
+      room = omega (arith, ap (λ (n : Needed). n .bytes) (needed-so ddsOf (c .opened .header) (ready .limits) out refl));
     } in
     ⊎-elim inl (λ m. inr (⊎-elim (λ e. absurd (not-checked (t .untouched e .why) checked)) (λ e. level-left ready (t .zeroed e .why))
     (among-either (c .answer .refusal) earlyNumbers levelNumbers m))) (t .number)
