@@ -1,13 +1,11 @@
 //! `crn check`: every level of every file.
+use crate::bar::Bar;
 use crate::{files, say, Failure};
 use crunch_proved::{Crn, Refusal};
 use std::collections::BTreeMap;
 use std::ffi::OsString;
-use std::io::{IsTerminal, Write};
+use std::io::Write;
 use std::path::{Path, PathBuf};
-use std::sync::atomic::{AtomicUsize, Ordering};
-use std::sync::mpsc;
-use std::time::{Duration, Instant};
 
 /// What a file holds that was accepted whole.
 struct Accepted {
@@ -38,7 +36,11 @@ pub fn run(words: &[OsString]) -> Result<(), Failure> {
     let found = files::found(&names);
     let (mut bar, mut tally) = (Bar::new(found.len()), Tally::default());
     let mut out = std::io::BufWriter::new(std::io::stdout());
-    in_order(&found, |path, answer| {
+    let work = |(path, trouble): &(PathBuf, Option<String>)| match trouble {
+        Some(why) => Err(Fault::Trouble(why.clone())),
+        None => whole(path),
+    };
+    files::in_order(&found, work, |(path, _), answer| {
         tally.count(&answer);
         let line = if json { Some(as_json(path, &answer)) } else { as_text(path, &answer) };
         if let Some(line) = line {
@@ -48,7 +50,7 @@ pub fn run(words: &[OsString]) -> Result<(), Failure> {
                 out.flush()?;
             }
         }
-        bar.step(&tally);
+        bar.step(tally.refusals());
         Ok(())
     })?;
     bar.clear();
@@ -64,39 +66,6 @@ pub fn run(words: &[OsString]) -> Result<(), Failure> {
     } else {
         Err(Failure::Said)
     }
-}
-
-/// Unpacks all files, on every processor, and hands each answer over in the files' order.
-fn in_order(found: &[(PathBuf, Option<String>)], mut each: impl FnMut(&Path, Result<Accepted, Fault>) -> std::io::Result<()>) -> std::io::Result<()> {
-    let workers = std::thread::available_parallelism().map_or(1, |n| n.get()).min(found.len());
-    let next = AtomicUsize::new(0);
-    let (send, receive) = mpsc::sync_channel(64 * workers);
-    std::thread::scope(|scope| {
-        for _ in 0..workers {
-            let (send, next) = (send.clone(), &next);
-            scope.spawn(move || loop {
-                let n = next.fetch_add(1, Ordering::Relaxed);
-                let Some((path, trouble)) = found.get(n) else { break };
-                let answer = match trouble {
-                    Some(why) => Err(Fault::Trouble(why.clone())),
-                    None => whole(path),
-                };
-                if send.send((n, answer)).is_err() {
-                    break;
-                }
-            });
-        }
-        drop(send);
-        let (mut early, mut due) = (BTreeMap::new(), 0);
-        for (n, answer) in receive {
-            early.insert(n, answer);
-            while let Some(answer) = early.remove(&due) {
-                each(&found[due].0, answer)?;
-                due += 1;
-            }
-        }
-        Ok(())
-    })
 }
 
 fn whole(path: &Path) -> Result<Accepted, Fault> {
@@ -193,36 +162,5 @@ impl Tally {
             out += &format!("\n  {} by {number}: {sentence}", n(*count));
         }
         out + "\n"
-    }
-}
-
-/// A bar on a terminal; nothing elsewhere.
-struct Bar {
-    shown: bool,
-    all: usize,
-    done: usize,
-    drawn: Option<Instant>,
-}
-
-impl Bar {
-    fn new(all: usize) -> Bar {
-        Bar { shown: std::io::stderr().is_terminal(), all, done: 0, drawn: None }
-    }
-
-    fn step(&mut self, tally: &Tally) {
-        self.done += 1;
-        let due = self.drawn.is_none_or(|at| at.elapsed() > Duration::from_millis(100));
-        if self.shown && due {
-            let full = 30 * self.done / self.all;
-            let (bar, rest) = ("#".repeat(full), ".".repeat(30 - full));
-            eprint!("\r[{bar}{rest}] {} of {} files, {} refused", self.done, self.all, tally.refusals());
-            self.drawn = Some(Instant::now());
-        }
-    }
-
-    fn clear(&mut self) {
-        if self.shown && self.drawn.take().is_some() {
-            eprint!("\r\x1b[K");
-        }
     }
 }

@@ -1,8 +1,11 @@
-//! Files: read whole, written whole or not at all, and found below folders.
+//! Files: read whole, written whole or not at all, found below folders, and gone through in order.
+use std::collections::BTreeMap;
 use std::ffi::OsString;
 use std::fs::{self, File};
 use std::io::{Error, ErrorKind, Write};
 use std::path::{Path, PathBuf};
+use std::sync::atomic::{AtomicUsize, Ordering};
+use std::sync::mpsc;
 
 /// What went wrong, in a person's words.
 pub fn trouble(error: &Error) -> String {
@@ -105,4 +108,36 @@ fn below(folder: &Path, out: &mut Vec<(PathBuf, Option<String>)>) {
             out.push((path, None));
         }
     }
+}
+
+/// Works on all files, on every processor, and hands each answer over in the files' order.
+pub fn in_order<F: Sync, A: Send, W>(files: &[F], work: W, mut each: impl FnMut(&F, A) -> Result<(), Error>) -> Result<(), Error>
+where
+    W: Fn(&F) -> A + Sync,
+{
+    let workers = std::thread::available_parallelism().map_or(1, |n| n.get()).min(files.len());
+    let next = AtomicUsize::new(0);
+    let (send, receive) = mpsc::sync_channel(64 * workers);
+    std::thread::scope(|scope| {
+        for _ in 0..workers {
+            let (send, next, work) = (send.clone(), &next, &work);
+            scope.spawn(move || loop {
+                let n = next.fetch_add(1, Ordering::Relaxed);
+                let Some(file) = files.get(n) else { break };
+                if send.send((n, work(file))).is_err() {
+                    break;
+                }
+            });
+        }
+        drop(send);
+        let (mut early, mut due) = (BTreeMap::new(), 0);
+        for (n, answer) in receive {
+            early.insert(n, answer);
+            while let Some(answer) = early.remove(&due) {
+                each(&files[due], answer)?;
+                due += 1;
+            }
+        }
+        Ok(())
+    })
 }

@@ -1,6 +1,7 @@
 //! `crn`: CRN files on the command line. See USAGE.
 #![forbid(unsafe_code)]
 
+mod bar;
 mod check;
 mod files;
 mod info;
