@@ -13,6 +13,7 @@
  *    5  a lent palette that is too short         13  a chunk symbol
  *    6  a code table                             14  a palette index
  *    7  bits that begin no code                  15  a budget that is already spent
+ *                                                16  a format that DDS has no letters for
  */
 #ifndef CRUNCH_H
 #define CRUNCH_H
@@ -162,6 +163,43 @@ struct crunch_several crunch_unpack_levels_parts(
     const uint16_t *alpha_endpoints, size_t alpha_endpoints_len, const uint16_t *alpha_selectors, size_t alpha_selectors_len,
     uint32_t first, uint64_t *budget, uint8_t *dst, size_t dst_len);
 
+/* How many bytes the DDS file of an opened file has. Refusal 2 (a header beyond its limits) and 16 (a format that DDS has no letters for:
+ * 3 to 6 and 8) come with 0 bytes. */
+struct crunch_needed {
+    uint32_t refusal;
+    size_t bytes;
+};
+struct crunch_needed crunch_dds_bytes(struct crunch_header header);
+
+/* A DDS file, written into the first bytes of dst: the magic, a header of 124 bytes, and the blocks of each face after the other, of a face
+ * each level from large to small, all close together. Formats 0, 2, 7 and 9 go out as DXT1, DXT5, BC5U and BC4U. Each level has its full
+ * symbol allowance. Refusal 0 with the bytes written and the symbols and cut-outs of all levels; or the refusal, the level that it is of,
+ * the bit in that level's segment and the symbols drawn in all levels up to it, with 0 bytes and 0 cut-outs.
+ *
+ * Refused by 2, 6, 16 or 12, which are looked at in this order before any level, it leaves dst untouched, and level, at and symbols are 0.
+ * Refused by 4, 5, 7, 8, 13 or 14, which are a level's, it leaves the whole file's bytes (as many as crunch_dds_bytes says) zero and all
+ * beyond them as it was, also where the levels before went through; at is 0 with 4 and 5. */
+struct crunch_written {
+    uint32_t refusal, level;
+    size_t at, bytes;
+    uint64_t symbols, cutouts;
+};
+static inline struct crunch_written crunch_write_dds(
+    const struct crunch_record *record, const uint8_t *file, size_t file_len,
+    const uint32_t *color_endpoints, size_t color_endpoints_len, const uint32_t *color_selectors, size_t color_selectors_len,
+    const uint16_t *alpha_endpoints, size_t alpha_endpoints_len, const uint16_t *alpha_selectors, size_t alpha_selectors_len,
+    uint8_t *dst, size_t dst_len);
+
+/* The same by the record's parts. */
+struct crunch_written crunch_write_dds_parts(
+    struct crunch_header header, struct crunch_counts counts, const uint8_t *chunk_encoding,
+    const uint8_t *color_endpoint_delta, const uint8_t *color_selector_delta,
+    const uint8_t *alpha_endpoint_delta, const uint8_t *alpha_selector_delta,
+    const uint8_t *file, size_t file_len,
+    const uint32_t *color_endpoints, size_t color_endpoints_len, const uint32_t *color_selectors, size_t color_selectors_len,
+    const uint16_t *alpha_endpoints, size_t alpha_endpoints_len, const uint16_t *alpha_selectors, size_t alpha_selectors_len,
+    uint8_t *dst, size_t dst_len);
+
 /* ---- a record by its parts: nothing of its 41,000 bytes is copied but the header and the counts */
 
 #define CRUNCH_LENGTHS \
@@ -195,7 +233,7 @@ static inline struct crunch_counts crunch_counts_of(const struct crunch_record *
     return counts;
 }
 
-/* what both unpackers hand on: the record by its parts, the file, the palettes */
+/* what each of them hands on: the record by its parts, the file, the palettes */
 #define CRUNCH_PARTS \
     record->header, crunch_counts_of(record), CRUNCH_LENGTHS, \
     file, file_len, color_endpoints, color_endpoints_len, color_selectors, color_selectors_len, alpha_endpoints, alpha_endpoints_len, alpha_selectors, alpha_selectors_len
@@ -216,6 +254,15 @@ static inline struct crunch_several crunch_unpack_levels(
     uint32_t first, uint64_t *budget, uint8_t *dst, size_t dst_len)
 {
     return crunch_unpack_levels_parts(CRUNCH_PARTS, first, budget, dst, dst_len);
+}
+
+static inline struct crunch_written crunch_write_dds(
+    const struct crunch_record *record, const uint8_t *file, size_t file_len,
+    const uint32_t *color_endpoints, size_t color_endpoints_len, const uint32_t *color_selectors, size_t color_selectors_len,
+    const uint16_t *alpha_endpoints, size_t alpha_endpoints_len, const uint16_t *alpha_selectors, size_t alpha_selectors_len,
+    uint8_t *dst, size_t dst_len)
+{
+    return crunch_write_dds_parts(CRUNCH_PARTS, dst, dst_len);
 }
 
 #undef CRUNCH_PARTS

@@ -1,4 +1,5 @@
-//! Opens CRN files (crunched DXT textures) and unpacks their levels into DXT1, DXT5, DXT5A or DXN blocks, by code that is proved: see the repository's README.
+//! Opens CRN files (crunched DXT textures), unpacks their levels into DXT1, DXT5, DXT5A or DXN blocks and writes them as DDS files, by code
+//! that is proved: see the repository's README.
 //!
 //! A file may hold anything, and every argument may be wrong: each call ends, with blocks or with a numbered [`Refusal`].
 //!
@@ -25,7 +26,7 @@ pub mod raw;
 mod refusal;
 
 pub use format::Format;
-pub use refusal::Refusal;
+pub use refusal::{NotWritten, Refusal};
 
 /// An opened file: its record and its palettes, beside the file's bytes.
 #[derive(Clone, Debug)]
@@ -111,6 +112,26 @@ impl Levels {
             &self.blocks[from - sizes.bytes..from]
         })
     }
+}
+
+/// A DDS file, as [`Crn::to_dds`] makes it.
+#[derive(Clone, Debug, PartialEq, Eq)]
+#[non_exhaustive]
+pub struct Dds {
+    /// The file: its magic, its header and its blocks.
+    pub bytes: Vec<u8>,
+    /// Symbols and cut-outs of all levels.
+    pub counts: Counts,
+}
+
+/// What [`Crn::write_dds_into`] wrote.
+#[derive(Clone, Copy, Debug, PartialEq, Eq, Hash)]
+#[non_exhaustive]
+pub struct Written {
+    /// How many bytes, from the buffer's first on.
+    pub bytes: usize,
+    /// Symbols and cut-outs of all levels.
+    pub counts: Counts,
 }
 
 impl<'a> Crn<'a> {
@@ -262,6 +283,57 @@ impl<'a> Crn<'a> {
     pub fn unpack_level_into(&self, level: u32, pitch: usize, distance: usize, budget: &mut u64, dst: &mut [u8]) -> Result<Counts, Refusal> {
         let answer = raw::unpack_level(&self.record, self.file, &self.palettes(), level, pitch, distance, budget, dst);
         Refusal::of(answer.refusal, answer.at).map_or(Ok(Counts { symbols: answer.symbols, cutouts: answer.cutouts }), Err)
+    }
+
+    /// How many bytes the file has as a DDS file; [`Refusal::Format`] where DDS has no letters for its format, which is so for all but
+    /// [`Format::Dxt1`], [`Format::Dxt5`], [`Format::DxnXy`] and [`Format::Dxt5a`].
+    pub fn dds_bytes(&self) -> Result<usize, Refusal> {
+        let needed = raw::dds_bytes(&self.record.header);
+        Refusal::of(needed.refusal, 0).map_or(Ok(needed.bytes), Err)
+    }
+
+    /// The file as a DDS file: the magic, a header of 124 bytes, and the blocks of each face after the other, of a face each level from
+    /// large to small. They are those of [`unpack_level`](Crn::unpack_level), and go out as DXT1, DXT5, BC5U (DXN) or BC4U (DXT5A).
+    ///
+    /// ```
+    /// # let file = std::fs::read("../samples/cube.crn")?;
+    /// let crn = crunch_proved::Crn::open(&file)?;
+    /// let dds = crn.to_dds()?.bytes;
+    /// assert_eq!((&dds[..4], &dds[84..88]), (&b"DDS "[..], &b"DXT1"[..]));
+    /// assert_eq!(dds[128..][..128], *crn.unpack_level(0)?.face(0).unwrap());
+    /// # Ok::<(), Box<dyn std::error::Error>>(())
+    /// ```
+    pub fn to_dds(&self) -> Result<Dds, NotWritten> {
+        let bytes = self.dds_bytes().map_err(|refusal| NotWritten { refusal, level: None })?;
+        let mut bytes = vec![0; bytes];
+        let counts = self.write_dds_into(&mut bytes)?.counts;
+        Ok(Dds { bytes, counts })
+    }
+
+    /// Writes the file as a DDS file, as [`to_dds`](Crn::to_dds) has it, into the first bytes of `dst`, as many as
+    /// [`dds_bytes`](Crn::dds_bytes) says. What lies beyond them stays as it was.
+    ///
+    /// Refused by 16 (its format) or 12 (`dst` is too short), it leaves `dst` untouched. Where a level is refused, by 4, 7, 8, 13 or 14, it
+    /// leaves all those first bytes zero, also where the levels before it went through.
+    ///
+    /// ```
+    /// use crunch_proved::{Crn, Refusal};
+    ///
+    /// let file = std::fs::read("../samples/dxn.crn")?;
+    /// let crn = Crn::open(&file)?;
+    /// let mut buffer = [0xAA; 4096];
+    /// let written = crn.write_dds_into(&mut buffer)?;
+    /// assert_eq!(Ok(written.bytes), crn.dds_bytes());
+    /// assert!(buffer.starts_with(b"DDS ") && buffer[written.bytes..].iter().all(|byte| *byte == 0xAA));
+    ///
+    /// let no = crn.write_dds_into(&mut buffer[..written.bytes - 1]).unwrap_err();
+    /// assert_eq!((no.refusal, no.level), (Refusal::Destination, None));
+    /// # Ok::<(), Box<dyn std::error::Error>>(())
+    /// ```
+    pub fn write_dds_into(&self, dst: &mut [u8]) -> Result<Written, NotWritten> {
+        let answer = raw::write_dds(&self.record, self.file, &self.palettes(), dst);
+        let counts = Counts { symbols: answer.symbols, cutouts: answer.cutouts };
+        NotWritten::of(answer.refusal, answer.at, answer.level).map_or(Ok(Written { bytes: answer.bytes, counts }), Err)
     }
 }
 

@@ -149,6 +149,27 @@ pub struct LevelSizes {
     pub symbols: u64,
 }
 
+/// How many bytes a file takes; 0 where the refusal is 2 (a header beyond its limits) or 16 (a format that DDS has no letters for).
+#[repr(C)]
+#[derive(Clone, Copy, Debug, PartialEq, Eq)]
+pub struct Needed {
+    pub refusal: u32,
+    pub bytes: usize,
+}
+
+/// What [`write_dds`] answers: refusal 0 with the bytes written and the symbols and cut-outs of all levels; or the refusal, the level that
+/// it is of, the bit in that level's segment and the symbols drawn in all levels up to it, with 0 bytes and 0 cut-outs.
+#[repr(C)]
+#[derive(Clone, Copy, Debug, PartialEq, Eq)]
+pub struct Written {
+    pub refusal: u32,
+    pub level: u32,
+    pub at: usize,
+    pub bytes: usize,
+    pub symbols: u64,
+    pub cutouts: u64,
+}
+
 /// The four palettes' buffers, lent to be read.
 #[derive(Clone, Copy, Debug)]
 pub struct Palettes<'a> {
@@ -193,6 +214,15 @@ extern "C" {
         alpha_endpoints: *const u16, alpha_endpoints_len: usize, alpha_selectors: *const u16, alpha_selectors_len: usize,
         first: u32, budget: *mut u64, dst: *mut u8, dst_len: usize,
     ) -> Several;
+    fn crunch_dds_bytes(header: Header) -> Needed;
+    fn crunch_write_dds_parts(
+        header: Header, counts: TableCounts, chunk_encoding: *const Lengths,
+        color_endpoint_delta: *const Lengths, color_selector_delta: *const Lengths,
+        alpha_endpoint_delta: *const Lengths, alpha_selector_delta: *const Lengths, file: *const u8, file_len: usize,
+        color_endpoints: *const u32, color_endpoints_len: usize, color_selectors: *const u32, color_selectors_len: usize,
+        alpha_endpoints: *const u16, alpha_endpoints_len: usize, alpha_selectors: *const u16, alpha_selectors_len: usize,
+        dst: *mut u8, dst_len: usize,
+    ) -> Written;
 }
 
 /// The lengths of a table.
@@ -327,4 +357,19 @@ pub fn unpack_level(
 /// refused at the first draw of the level `first`, so by 15 with 0 levels, 0 symbols and that level's blocks zero.
 pub fn unpack_levels(record: &Record, file: &[u8], palettes: &Palettes<'_>, first: u32, budget: &mut u64, dst: &mut [u8]) -> Several {
     over_record!(crunch_unpack_levels_parts, record, file, palettes, first, budget, dst.as_mut_ptr(), dst.len())
+}
+
+/// How many bytes the DDS file of a header has.
+pub fn dds_bytes(header: &Header) -> Needed {
+    // SAFETY: a struct by value.
+    unsafe { crunch_dds_bytes(*header) }
+}
+
+/// Writes a DDS file into the first bytes of `dst`, as many as [`dds_bytes`] says: the magic, a header of 124 bytes, and the blocks of each
+/// face after the other, of a face each level from large to small. Each level has its full symbol allowance.
+///
+/// Refused by 2, 6, 16 or 12, which are looked at in this order before any level, it leaves `dst` untouched, and level, bit and symbols are
+/// 0. Refused by 4, 5, 7, 8, 13 or 14, which are a level's, it leaves the whole file's bytes zero, and all beyond them as it was.
+pub fn write_dds(record: &Record, file: &[u8], palettes: &Palettes<'_>, dst: &mut [u8]) -> Written {
+    over_record!(crunch_write_dds_parts, record, file, palettes, dst.as_mut_ptr(), dst.len())
 }

@@ -36,6 +36,8 @@ pub enum Refusal {
     Index { bit: usize },
     /// 15: a budget that is already spent.
     Budget { bit: usize },
+    /// 16: a format that DDS has no letters for.
+    Format,
 }
 
 impl Refusal {
@@ -58,11 +60,12 @@ impl Refusal {
             13 => Refusal::Chunk { bit },
             14 => Refusal::Index { bit },
             15 => Refusal::Budget { bit },
-            other => panic!("the archive gave refusal {other}, and this package knows 1 to 15"),
+            16 => Refusal::Format,
+            other => panic!("the archive gave refusal {other}, and this package knows 1 to 16"),
         })
     }
 
-    /// The number by which the format's description knows it, 1 to 15.
+    /// The number by which the format's description knows it, 1 to 16.
     pub fn number(self) -> u32 {
         match self {
             Refusal::NotCrn => 1,
@@ -80,6 +83,7 @@ impl Refusal {
             Refusal::Chunk { .. } => 13,
             Refusal::Index { .. } => 14,
             Refusal::Budget { .. } => 15,
+            Refusal::Format => 16,
         }
     }
 
@@ -113,10 +117,11 @@ impl Refusal {
             Refusal::Selector { .. } => "the compressed data are damaged: a palette has a selector that can't be",
             Refusal::Level => "the file has no level of this number",
             Refusal::Pitch => "the pitch or the distance is no multiple of 4, or too small for this level",
-            Refusal::Destination => "the memory lent for the blocks is too short for this level",
+            Refusal::Destination => "the memory lent for the blocks is too short for this level or file",
             Refusal::Chunk { .. } => "the compressed data are damaged: a chunk is laid out in a way that can't be",
             Refusal::Index { .. } => "the compressed data are damaged: a block asks for an entry that its palette does not have",
             Refusal::Budget { .. } => "the level needs more symbols than it was allowed",
+            Refusal::Format => "DDS has no letters for this file's format, only for DXT1, DXT5, DXN XY and DXT5A",
         }
     }
 }
@@ -132,3 +137,42 @@ impl fmt::Display for Refusal {
 }
 
 impl std::error::Error for Refusal {}
+
+/// Why a DDS file was not written.
+///
+/// ```
+/// let mut file = std::fs::read("../samples/dxt1.crn")?;
+/// // level 3 begins where level 4 does, and has no bytes
+/// file.copy_within(86..90, 82);
+/// let no = crunch_proved::Crn::open(&file)?.to_dds().unwrap_err();
+/// assert_eq!((no.refusal, no.level), (crunch_proved::Refusal::Segment, Some(3)));
+/// assert!(no.to_string().starts_with("level 3: refused, 4: "));
+/// # Ok::<(), Box<dyn std::error::Error>>(())
+/// ```
+#[derive(Clone, Copy, Debug, PartialEq, Eq, Hash)]
+#[non_exhaustive]
+pub struct NotWritten {
+    /// The refusal.
+    pub refusal: Refusal,
+    /// The level that it is of (4, 5, 7, 8, 13, 14); nothing where it came before any level (2, 6, 12, 16).
+    pub level: Option<u32>,
+}
+
+impl NotWritten {
+    /// The refusal of a number, the bit and the level that it names; nothing for 0.
+    pub(crate) fn of(number: u32, bit: usize, level: u32) -> Option<NotWritten> {
+        let early = matches!(number, 2 | 6 | 12 | 16);
+        Refusal::of(number, bit).map(|refusal| NotWritten { refusal, level: (!early).then_some(level) })
+    }
+}
+
+impl fmt::Display for NotWritten {
+    fn fmt(&self, f: &mut fmt::Formatter<'_>) -> fmt::Result {
+        match self.level {
+            Some(level) => write!(f, "level {level}: {}", self.refusal),
+            None => self.refusal.fmt(f),
+        }
+    }
+}
+
+impl std::error::Error for NotWritten {}

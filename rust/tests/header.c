@@ -82,11 +82,36 @@ static void without_budget(const char *name)
     }
 }
 
+static void written(size_t len)
+{
+    struct crunch_needed n = crunch_dds_bytes(record.header);
+    size_t size = record.header.data_size;
+    pattern(sizeof blocks);
+    struct crunch_written w = crunch_write_dds(&record, file, size, ce, 8192, cs, 8192, ae, 8192, al, 3 * 8192, blocks, len);
+    printf("dds %u %zu %u %u %zu %zu %" PRIu64 " %" PRIu64 " %" PRIu64 "\n", n.refusal, n.bytes, w.refusal, w.level, w.at, w.bytes,
+           w.symbols, w.cutouts, hash_of(blocks, 8192));
+}
+
+/* A DDS file: whole, with one byte too few, with a level that has no bytes, and of a format that has no letters. */
+static void as_dds(const char *name)
+{
+    size_t size = sample(name);
+    crunch_open(&record, file, size, ce, 8192, cs, 8192, ae, 8192, al, 3 * 8192);
+    size_t bytes = crunch_dds_bytes(record.header).bytes;
+    written(bytes + 7);
+    written(bytes - 1);
+    record.header.level_offsets[3] = record.header.level_offsets[2];
+    written(bytes);
+    record.header.format = 5;
+    written(bytes);
+}
+
 int main(void)
 {
     told("cube.crn");
     told("dxt5.crn");
     without_budget("cube.crn");
+    as_dds("dxt5.crn");
     struct crunch_opened none = crunch_open(&record, file, 73, ce, 8192, cs, 8192, ae, 8192, al, 3 * 8192);
     struct crunch_header h = crunch_look(file, sizeof file).header;
     struct crunch_header wide = h;

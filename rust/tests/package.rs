@@ -1,6 +1,6 @@
 //! The package's own functions.
 mod common;
-use common::{names, pattern, root, sample};
+use common::{cut_level, names, of_format, pattern, root, sample, samples};
 use crunch_proved::{raw, Counts, Crn, Format, Refusal};
 
 /// The record that a file opens to.
@@ -85,6 +85,10 @@ fn each_number_of_a_header_and_of_sizes_is_in_its_place() {
     let (columns, rows, pitch, symbols) = (250, 125, 250 * 16, 16 * 6 * 125 * 63 + 2 * 125 * 63);
     let sizes = raw::LevelSizes { refusal: 0, columns, rows, block_bytes: 16, pitch, distance: 125 * pitch, bytes: 6 * 125 * pitch, symbols };
     assert_eq!(raw::level_sizes(h, 0), sizes);
+    let blocks = |side: u32, level: u32| (side >> level).max(1).div_ceil(4) as usize;
+    let face: usize = (0..13).map(|level| blocks(1000, level) * blocks(500, level) * 16).sum();
+    assert_eq!(raw::dds_bytes(h), raw::Needed { refusal: 0, bytes: 128 + 6 * face });
+    assert_eq!(raw::dds_bytes(&raw::Header { faces: 5, ..header }), raw::Needed { refusal: 2, bytes: 0 });
 }
 
 #[test]
@@ -121,8 +125,8 @@ fn every_refusal_of_a_call_has_its_number_and_its_sentence() {
 
 #[test]
 fn levels_of_one_call_are_those_of_one_each() {
-    for name in names(&root("samples")).iter().filter(|n| n.ends_with(".crn")) {
-        let file = sample(name);
+    for name in samples() {
+        let file = sample(&name);
         let crn = Crn::open(&file).unwrap();
         for first in 0..crn.levels() {
             let (levels, single) = (crn.unpack_levels(first).unwrap(), (first..crn.levels()).map(|n| crn.unpack_level(n).unwrap()).collect::<Vec<_>>());
@@ -249,6 +253,192 @@ fn what_a_refused_level_leaves_goes_by_its_number() {
     }
 }
 
+/// A DDS header, read by Microsoft's names at Microsoft's places: the magic, DDS_HEADER and, in it, DDS_PIXELFORMAT.
+struct Head<'a>(&'a [u8]);
+
+impl Head<'_> {
+    fn word(&self, at: usize) -> u32 {
+        u32::from_le_bytes(self.0[at..at + 4].try_into().unwrap())
+    }
+
+    /// Every field of the 128 bytes.
+    fn check(&self, header: &raw::Header, letters: &[u8; 4], linear_size: usize) {
+        let (mips, cube) = (header.levels > 1, header.faces == 6);
+        assert_eq!(&self.0[..4], b"DDS ");
+        let flags = 0x1 | 0x2 | 0x4 | 0x1000 | 0x20000 | 0x80000; // caps, height, width, pixel format, mip map count, linear size
+        let named = [
+            ("dwSize", 4, 124),
+            ("dwFlags", 8, flags),
+            ("dwHeight", 12, header.height),
+            ("dwWidth", 16, header.width),
+            ("dwPitchOrLinearSize", 20, linear_size as u32),
+            ("dwDepth", 24, 0),
+            ("dwMipMapCount", 28, header.levels),
+            ("ddspf.dwSize", 76, 32),
+            ("ddspf.dwFlags", 80, 0x4),
+            ("ddspf.dwFourCC", 84, u32::from_le_bytes(*letters)),
+            // texture; mip map; complex
+            ("dwCaps", 108, 0x1000 + if mips { 0x400000 } else { 0 } + if mips || cube { 0x8 } else { 0 }),
+            // cube map, +x -x +y -y +z -z
+            ("dwCaps2", 112, if cube { 0x200 + 0x400 + 0x800 + 0x1000 + 0x2000 + 0x4000 + 0x8000 } else { 0 }),
+        ];
+        for (name, at, value) in named {
+            assert_eq!((name, self.word(at)), (name, value));
+        }
+        // dwReserved1, the bit count and the masks, dwCaps3, dwCaps4, dwReserved2
+        let unused = (32..76).chain(88..108).chain(116..128);
+        assert!(unused.into_iter().all(|at| self.0[at] == 0));
+    }
+}
+
+/// What a DDS file has after its header: the blocks of unpack_level, faces outermost, each with its levels from large to small.
+fn surfaces(crn: &Crn) -> Vec<u8> {
+    let levels: Vec<_> = (0..crn.levels()).map(|level| crn.unpack_level(level).unwrap()).collect();
+    (0..crn.faces() as usize).flat_map(|face| levels.iter().flat_map(move |level| level.face(face).unwrap().to_vec())).collect()
+}
+
+#[test]
+fn a_dds_file_is_a_header_and_the_levels_blocks() {
+    let letters = [("cube.crn", b"DXT1"), ("dxn.crn", b"BC5U"), ("dxt1.crn", b"DXT1"), ("dxt5.crn", b"DXT5"), ("dxt5a.crn", b"BC4U")];
+    assert!(samples().iter().eq(letters.iter().map(|(name, _)| name)));
+    for (name, letters) in letters {
+        let file = sample(name);
+        let crn = Crn::open(&file).unwrap();
+        let (dds, bytes) = (crn.to_dds().unwrap(), crn.dds_bytes().unwrap());
+        Head(&dds.bytes[..128]).check(crn.header(), letters, crn.level_sizes(0).unwrap().distance);
+        assert_eq!((dds.bytes.len(), &dds.bytes[128..]), (bytes, &surfaces(&crn)[..]), "{name}");
+        assert_eq!(dds.counts, crn.unpack_levels(0).unwrap().counts);
+        // into a lent buffer: what lies beyond stays
+        let before = pattern(bytes + 100);
+        let mut dst = before.clone();
+        let written = crn.write_dds_into(&mut dst).unwrap();
+        assert_eq!((written.bytes, written.counts), (bytes, dds.counts));
+        assert!(dst[..bytes] == dds.bytes && dst[bytes..] == before[bytes..], "{name}");
+        // as long as it has to be, and one byte short
+        let mut dst = before.clone();
+        assert_eq!(crn.write_dds_into(&mut dst[..bytes]).unwrap(), written);
+        assert!(dst[..bytes] == dds.bytes && dst[bytes..] == before[bytes..], "{name}");
+        let mut dst = before.clone();
+        let no = crn.write_dds_into(&mut dst[..bytes - 1]).unwrap_err();
+        assert_eq!((no.refusal, no.level, no.to_string()), (Refusal::Destination, None, Refusal::Destination.to_string()));
+        assert!(dst == before, "{name}");
+        assert_eq!(crn.write_dds_into(&mut []).unwrap_err(), no);
+    }
+}
+
+/// A header of one level has no mip maps, and one of six faces is complex all the same.
+#[test]
+fn a_dds_file_of_one_level_says_so() {
+    for name in ["dxt1.crn", "cube.crn"] {
+        let mut file = sample(name);
+        file[16] = 1;
+        let crn = Crn::open(&file).unwrap();
+        let (dds, size) = (crn.to_dds().unwrap().bytes, crn.level_sizes(0).unwrap().distance);
+        assert_eq!(dds.len(), 128 + crn.faces() as usize * size);
+        Head(&dds[..128]).check(crn.header(), b"DXT1", size);
+        assert!(dds[128..] == surfaces(&crn));
+    }
+}
+
+#[test]
+fn a_format_without_letters_is_refused_and_nothing_is_written() {
+    for (name, format) in [("dxt5.crn", 3), ("dxt5.crn", 4), ("dxt5.crn", 5), ("dxt5.crn", 6), ("dxn.crn", 8)] {
+        let (file, plain) = (of_format(name, format), sample(name));
+        let crn = Crn::open(&file).unwrap();
+        assert_eq!((crn.format().number(), crn.dds_bytes()), (format as u32, Err(Refusal::Format)));
+        assert!(crn.unpack_levels(0).unwrap().blocks == Crn::open(&plain).unwrap().unpack_levels(0).unwrap().blocks);
+        let (before, no) = (pattern(4096), crn.to_dds().unwrap_err());
+        assert_eq!((no.refusal, no.refusal.number(), no.level), (Refusal::Format, 16, None));
+        assert!(no.to_string().starts_with("refused, 16: DDS has no letters for this file's format"));
+        // 16 comes before 12
+        for len in [4096, 0] {
+            let mut dst = before.clone();
+            assert_eq!(crn.write_dds_into(&mut dst[..len]).unwrap_err(), no);
+            assert!(dst == before);
+        }
+        assert_eq!(raw::dds_bytes(crn.header()), raw::Needed { refusal: 16, bytes: 0 });
+    }
+}
+
+#[test]
+fn a_refused_level_leaves_no_byte_of_a_dds_file() {
+    let (mut empty, cut) = (sample("dxt1.crn"), cut_level());
+    // level 3 begins where level 4 does
+    empty.copy_within(86..90, 82);
+    for (file, level) in [(cut, 1), (empty, 3)] {
+        let crn = Crn::open(&file).unwrap();
+        let (bytes, refusal) = (crn.dds_bytes().unwrap(), crn.unpack_level(level).unwrap_err());
+        assert!((0..level).all(|before| crn.unpack_level(before).is_ok()));
+        let before = pattern(bytes + 100);
+        let mut dst = before.clone();
+        let no = crn.write_dds_into(&mut dst).unwrap_err();
+        assert_eq!((no.refusal, no.level, no.to_string()), (refusal, Some(level), format!("level {level}: {refusal}")));
+        assert!(dst[..bytes].iter().all(|byte| *byte == 0) && dst[bytes..] == before[bytes..]);
+        assert_eq!(crn.to_dds().unwrap_err(), no);
+    }
+}
+
+/// 2, 6, 16 and 12 are looked at in this order and leave the destination untouched. 4, 5, 7, 8, 13 and 14 are a level's: they come with its
+/// number, its bit and the symbols drawn so far, and leave the file's bytes zero.
+#[test]
+fn what_a_refused_dds_file_leaves_goes_by_its_number() {
+    let file = sample("cube.crn");
+    let crn = Crn::open(&file).unwrap();
+    let bytes = crn.dds_bytes().unwrap();
+    type Spoil = fn(&mut raw::Record, &mut raw::Palettes);
+    let early: [(u32, Spoil); 4] = [
+        (12, |_, _| ()),
+        (16, |record, _| {
+            record.header.format = 3;
+            record.header.alpha_endpoints.count = 1;
+            record.header.alpha_selectors.count = 1;
+        }),
+        (6, |record, _| record.tables.chunk_encoding.lengths[0] = 17),
+        (2, |record, _| record.header.width = 5000),
+    ];
+    let before = pattern(bytes + 100);
+    let mut record = record_of(&file);
+    let mut palettes = crn.palettes();
+    for (number, spoil) in early {
+        // each with all those that come after it
+        spoil(&mut record, &mut palettes);
+        let mut dst = before.clone();
+        let answer = raw::write_dds(&record, &file, &palettes, &mut dst[..bytes - 1]);
+        assert_eq!(answer, raw::Written { refusal: number, level: 0, at: 0, bytes: 0, symbols: 0, cutouts: 0 });
+        assert!(dst == before, "refused by {number}");
+    }
+    let late: [(u32, u32, Spoil); 8] = [
+        (4, 0, |record, _| record.header.level_offsets[0] = u32::MAX),
+        (4, 2, |record, _| record.header.level_offsets[3] = record.header.level_offsets[2]),
+        (5, 0, |_, palettes| palettes.color_selectors = &palettes.color_selectors[1..]),
+        (7, 0, |record, _| record.tables.chunk_encoding.lengths = std::array::from_fn(|i| if i == 0 { 16 } else { 0 })),
+        (8, 3, |record, _| record.header.level_offsets[4] = record.header.level_offsets[3] + 1),
+        (8, 4, |record, _| record.header.level_offsets[4] = 442),
+        (13, 0, |record, _| {
+            record.tables.chunk_encoding.count = 8192;
+            record.tables.chunk_encoding.lengths.rotate_right(1024);
+        }),
+        (14, 0, |record, _| record.header.color_endpoints.count = 1),
+    ];
+    for (number, level, spoil) in late {
+        let (mut record, mut palettes) = (record_of(&file), crn.palettes());
+        spoil(&mut record, &mut palettes);
+        // the levels up to it, each by a call of its own
+        let (mut symbols, mut at) = (0, 0);
+        for n in 0..=level {
+            let sizes = raw::level_sizes(&record.header, n);
+            let (mut blocks, mut budget) = (vec![0; sizes.bytes], sizes.symbols);
+            let one = raw::unpack_level(&record, &file, &palettes, n, sizes.pitch, sizes.distance, &mut budget, &mut blocks);
+            assert_eq!(one.refusal, if n < level { 0 } else { number }, "level {n}");
+            (symbols, at) = (symbols + one.symbols, one.at);
+        }
+        let mut dst = before.clone();
+        let answer = raw::write_dds(&record, &file, &palettes, &mut dst);
+        assert_eq!(answer, raw::Written { refusal: number, level, at, bytes: 0, symbols, cutouts: 0 });
+        assert!(dst[..bytes].iter().all(|byte| *byte == 0) && dst[bytes..] == before[bytes..], "refused by {number}");
+    }
+}
+
 /// The largest level there is: six faces of 4,096 by 4,096 pixels, every code one bit, all of them 0.
 #[test]
 fn the_largest_level_fits_into_the_stack_of_a_thread() {
@@ -273,11 +463,15 @@ fn the_largest_level_fits_into_the_stack_of_a_thread() {
         assert_eq!((sizes.bytes, sizes.symbols), (6 * 1024 * 1024 * 8, 8 * chunks + chunks / 3));
         // a chunk of one tile takes an endpoint and four selectors
         let symbols = 5 * chunks + chunks / 3;
-        let (file, mut dst, mut budget) = (vec![0; symbols.div_ceil(8) as usize], vec![1; sizes.bytes], sizes.symbols);
+        let (file, mut dst, mut budget) = (vec![0; symbols.div_ceil(8) as usize], vec![1; 128 + sizes.bytes], sizes.symbols);
         let palettes = raw::Palettes { color_endpoints: &[7; 40], color_selectors: &[9; 40], alpha_endpoints: &[], alpha_selectors: &[] };
         let answer = raw::unpack_level(&record, &file, &palettes, 0, sizes.pitch, sizes.distance, &mut budget, &mut dst);
         assert_eq!(answer, raw::Answer { refusal: 0, at: 0, symbols, cutouts: 0 });
-        assert!(dst.chunks(8).all(|block| block == [7, 0, 0, 0, 9, 0, 0, 0]));
+        let all_there = |blocks: &[u8]| blocks.chunks(8).all(|block| block == [7, 0, 0, 0, 9, 0, 0, 0]);
+        assert!(all_there(&dst[..sizes.bytes]));
+        let answer = raw::write_dds(&record, &file, &palettes, &mut dst);
+        assert_eq!(answer, raw::Written { refusal: 0, level: 0, at: 0, bytes: dst.len(), symbols, cutouts: 0 });
+        assert!(all_there(&dst[128..]));
     });
     unpacked.unwrap().join().unwrap();
 }

@@ -105,6 +105,8 @@ fn the_c_headers_structs_are_the_packages() {
         crunch_level_sizes raw::LevelSizes { refusal, columns, rows, block_bytes, pitch, distance, bytes, symbols }
         crunch_answer raw::Answer { refusal, at, symbols, cutouts }
         crunch_several raw::Several { refusal, at, levels, symbols, cutouts }
+        crunch_needed raw::Needed { refusal, bytes }
+        crunch_written raw::Written { refusal, level, at, bytes, symbols, cutouts }
     };
     let mut program = String::from("#include <crunch.h>\n#include <stdio.h>\n");
     program += "#define STRUCT(s) printf(#s \" %zu %zu\\n\", sizeof(struct s), _Alignof(struct s));\n";
@@ -154,6 +156,19 @@ fn the_c_header_is_the_archives() {
     // a level that is not there: refused before its first draw, with nothing written
     line("level", &[10, 0, 0, 0, 0, hash(before.clone()) as usize]);
     line("levels", &[10, 0, 0, 0, 0, 0, hash(before) as usize]);
+    // a DDS file, with 8,192 bytes lent that hold the pattern
+    let (file, before) = (sample("dxt5.crn"), pattern(8192));
+    let crn = Crn::open(&file).unwrap();
+    let dds = crn.to_dds().unwrap();
+    let bytes = dds.bytes.len();
+    let whole = hash([&dds.bytes, &before[bytes..]].concat());
+    line("dds", &[0, bytes, 0, 0, 0, bytes, dds.counts.symbols as usize, dds.counts.cutouts as usize, whole as usize]);
+    let untouched = hash(before.clone()) as usize;
+    line("dds", &[0, bytes, 12, 0, 0, 0, 0, 0, untouched]);
+    let drawn: u64 = (0..2).map(|level| crn.unpack_level(level).unwrap().counts.symbols).sum();
+    let zero = hash([&vec![0; bytes], &before[bytes..]].concat());
+    line("dds", &[0, bytes, 4, 2, 0, 0, drawn as usize, 0, zero as usize]);
+    line("dds", &[16, 0, 16, 0, 0, 0, 0, 0, untouched]);
     line("empty", &[0, 0, 0]);
     line("refused", &[1, 1, 10, 2]);
     assert_eq!(c(&root("rust/tests/header.c"), &room), (0, asked, String::new()));

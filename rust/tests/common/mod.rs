@@ -12,6 +12,27 @@ pub fn sample(name: &str) -> Vec<u8> {
     std::fs::read(root("samples").join(name)).unwrap()
 }
 
+/// The sample files' names.
+pub fn samples() -> Vec<String> {
+    names(&root("samples")).into_iter().filter(|name| name.ends_with(".crn")).collect()
+}
+
+/// dxt1.crn with level 1 ending too soon: level 2 begins where level 1 has but one byte.
+pub fn cut_level() -> Vec<u8> {
+    let mut file = sample("dxt1.crn");
+    let offset = |n: usize| 70 + 4 * n;
+    let first = u32::from_be_bytes(file[offset(1)..offset(2)].try_into().unwrap());
+    file[offset(2)..offset(3)].copy_from_slice(&(first + 1).to_be_bytes());
+    file
+}
+
+/// A file with another format in its header.
+pub fn of_format(name: &str, format: u8) -> Vec<u8> {
+    let mut file = sample(name);
+    file[18] = format;
+    file
+}
+
 /// What a destination holds before a call: bytes none of which is zero, so that one that was cleared is seen.
 pub fn pattern(len: usize) -> Vec<u8> {
     (0..len).map(|i| (i % 251) as u8 + 1).collect()
