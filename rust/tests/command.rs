@@ -1,6 +1,7 @@
 //! `crn`, run as a person would.
 mod common;
-use common::{crn, hash, names, room, root, sample, shown, told};
+use common::{crn, hash, names, of_format, room, root, sample, samples, shown, told};
+use std::path::Path;
 use std::process::Command;
 
 const NO_CRN: &str = "this is no CRN file: it does not begin with the letters Hx, or is shorter than any CRN file";
@@ -19,14 +20,10 @@ fn info_goes_on_after_a_file_that_is_refused() {
     assert!(out.contains("samples/cube.crn: 443 bytes, DXT1, 16 x 16 pixels, 5 levels, 6 faces\n"), "{out}");
 }
 
-/// A copy of dxt1.crn whose level 1 ends too soon: level 2 begins where level 1 has but one byte.
-fn cut_level(folder: &std::path::Path) -> String {
-    let mut file = sample("dxt1.crn");
-    let offset = |n: usize| 70 + 4 * n;
-    let first = u32::from_be_bytes(file[offset(1)..offset(2)].try_into().unwrap());
-    file[offset(2)..offset(3)].copy_from_slice(&(first + 1).to_be_bytes());
+/// The file of a level that ends too soon.
+fn cut_level(folder: &Path) -> String {
     let path = folder.join("cut.crn");
-    std::fs::write(&path, file).unwrap();
+    std::fs::write(&path, common::cut_level()).unwrap();
     path.to_str().unwrap().into()
 }
 
@@ -71,19 +68,137 @@ fn a_refused_level_leaves_no_file() {
 #[test]
 fn nothing_is_written_half() {
     // no file may grow beyond 512 bytes: level 0 does not fit, in the middle of its file
-    let out = room("unpack-half");
-    let script = "trap '' XFSZ; ulimit -f 1; exec \"$0\" unpack samples/dxt1.crn --out \"$1\"";
-    let run = Command::new("sh").args(["-c", script, env!("CARGO_BIN_EXE_crn"), out.to_str().unwrap()]).current_dir(root("")).output().unwrap();
-    let (status, _, err) = told(run);
-    assert_eq!(status, 1);
-    assert!(err.contains("dxt1-level0.dxt1: "), "{err}");
-    assert_eq!(names(&out), Vec::<String>::new());
+    for (words, name) in [("unpack samples/dxt1.crn --out", "dxt1-level0.dxt1"), ("dds samples/dxt1.crn -d", "dxt1.dds")] {
+        let out = room("written-half");
+        let script = format!("trap '' XFSZ; ulimit -f 1; exec \"$0\" {words} \"$1\"");
+        let words = ["-c", &script, env!("CARGO_BIN_EXE_crn"), out.to_str().unwrap()];
+        let (status, _, err) = told(Command::new("sh").args(words).current_dir(root("")).output().unwrap());
+        assert_eq!(status, 1);
+        assert!(err.contains(&format!("{name}: ")), "{err}");
+        assert_eq!(names(&out), Vec::<String>::new());
+    }
+}
+
+#[test]
+fn dds_writes_what_unpack_writes_after_a_header() {
+    let room = room("dds");
+    let (blocks, out) = (room.join("blocks"), room.join("new/folder"));
+    let (status, said, err) = told(crn(&["dds", "samples", "-d", out.to_str().unwrap()]));
+    assert_eq!((status, err.as_str(), names(&out)), (0, "", samples().iter().map(|name| name.replace(".crn", ".dds")).collect()));
+    let into = out.display();
+    assert!(said.starts_with(&format!("{into}/cube.dds: 1,232 bytes, 5 levels, 6 faces\n{into}/dxn.dds: 1,520 bytes, 6 levels, 1 face\n")));
+    // samples/dds.txt has a line for each, by another way
+    let stored = std::fs::read_to_string(root("samples/dds.txt")).unwrap();
+    for (line, said) in stored.lines().zip(said.lines()) {
+        let stem = line.split_once(".crn ").unwrap().0;
+        let dds = std::fs::read(out.join(format!("{stem}.dds"))).unwrap();
+        assert_eq!(line, format!("{stem}.crn {} {:016x}", dds.len(), hash(dds.clone())), "{said}");
+        told(crn(&["unpack", &format!("samples/{stem}.crn"), "--out", blocks.to_str().unwrap()]));
+        let (faces, levels) = (if stem == "cube" { 6 } else { 1 }, 0..13);
+        let surface = |face: usize, level: usize| {
+            let face = if faces > 1 { format!("-face{face}") } else { String::new() };
+            let kind = if stem == "cube" { "dxt1" } else { stem };
+            std::fs::read(blocks.join(format!("{stem}-level{level}{face}.{kind}"))).unwrap_or_default()
+        };
+        let all: Vec<u8> = (0..faces).flat_map(|face| levels.clone().flat_map(move |level| surface(face, level))).collect();
+        assert!(dds.starts_with(b"DDS \x7C\0\0\0") && dds[128..] == all, "{stem}");
+    }
+    assert_eq!((stored.lines().count(), said.lines().count()), (5, 5));
+}
+
+/// `crn`, run in a folder.
+fn crn_in(folder: &Path, words: &[&str]) -> (i32, String, String) {
+    told(Command::new(env!("CARGO_BIN_EXE_crn")).args(words).current_dir(folder).output().unwrap())
+}
+
+#[test]
+fn dds_of_one_file_goes_where_it_is_asked_to() {
+    let room = room("dds-one");
+    std::fs::write(room.join("one.crn"), sample("dxt1.crn")).unwrap();
+    // into the current folder, and over the file that was written before
+    assert_eq!(crn_in(&room, &["dds", "one.crn"]), (0, "one.dds: 2,872 bytes, 7 levels, 1 face\n".into(), String::new()));
+    assert_eq!(crn_in(&room, &["dds", "one.crn"]), (0, "one.dds: 2,872 bytes, 7 levels, 1 face (replaced)\n".into(), String::new()));
+    assert_eq!(crn_in(&room, &["dds", "-o", "two.x", "one.crn"]), (0, "two.x: 2,872 bytes, 7 levels, 1 face\n".into(), String::new()));
+    let made = std::fs::read(room.join("one.dds")).unwrap();
+    assert_eq!(made, std::fs::read(room.join("two.x")).unwrap());
+    assert_eq!(names(&room), ["one.crn", "one.dds", "two.x"]);
+    // to standard output, and nothing besides
+    let run = Command::new(env!("CARGO_BIN_EXE_crn")).args(["dds", "one.crn", "-o", "-"]).current_dir(&room).output().unwrap();
+    assert_eq!((run.status.code(), run.stdout, run.stderr), (Some(0), made, Vec::new()));
+    let (status, out, err) = told(crn(&["dds", "README.md", "-o", "-"]));
+    assert_eq!((status, out.as_str(), err), (1, "", format!("crn: README.md: refused, 1: {NO_CRN}\n")));
+    let folder = (".", "it is a folder, and a file is wanted");
+    for (out, why) in [("none/one.dds", "there is no such folder"), folder, ("/dev/full", "it is no file")] {
+        assert_eq!(crn_in(&room, &["dds", "one.crn", "-o", out]), (1, String::new(), format!("crn: {out}: {why}\n")));
+    }
+    assert_eq!(
+        crn_in(&room, &["dds", "one.crn", "-d", "two.x"]),
+        (1, String::new(), "crn: two.x: the folder can't be made: File exists (os error 17)\n".into())
+    );
+    assert_eq!(names(&room), ["one.crn", "one.dds", "two.x"]);
+}
+
+#[test]
+fn a_refused_file_leaves_no_dds_file() {
+    let room = room("dds-refused");
+    let cut = cut_level(&room);
+    std::fs::write(room.join("swizzled.crn"), of_format("dxt5.crn", 3)).unwrap();
+    let said = |name: &str| {
+        let path = room.join(name);
+        let (status, out, err) = told(crn(&["dds", path.to_str().unwrap(), "-d", room.join("new").to_str().unwrap()]));
+        assert_eq!((status, out.as_str(), room.join("new").exists()), (1, "", false));
+        err.replace(path.to_str().unwrap(), "FILE")
+    };
+    assert!(said("cut.crn").starts_with("crn: FILE: level 1: refused, 8: the compressed data end too soon"));
+    let letters = "DDS has no letters for this file's format, only for DXT1, DXT5, DXN XY and DXT5A";
+    assert_eq!(said("swizzled.crn"), format!("crn: FILE: refused, 16: {letters}\n"));
+    // what was there stays, and the other files are written
+    let out = room.join("out");
+    std::fs::create_dir(&out).unwrap();
+    std::fs::write(out.join("cut.dds"), "of yesterday").unwrap();
+    let none = room.join("none.crn");
+    let (status, said, err) = told(crn(&["dds", &cut, "samples/dxn.crn", none.to_str().unwrap(), "-d", out.to_str().unwrap()]));
+    assert_eq!((status, said), (1, format!("{}/dxn.dds: 1,520 bytes, 6 levels, 1 face\n", out.display())));
+    let lines: Vec<&str> = err.lines().collect();
+    assert!(lines[0].starts_with(&format!("crn: {cut}: level 1: refused, 8: ")), "{err}");
+    assert_eq!(lines[1..], [format!("crn: {}: there is no such file", none.display()), "crn: 1 of 3 files written".into()]);
+    assert_eq!(names(&out), ["cut.dds", "dxn.dds"]);
+    assert_eq!(std::fs::read(out.join("cut.dds")).unwrap(), b"of yesterday");
+}
+
+#[test]
+fn no_dds_file_takes_anothers_place() {
+    let room = room("dds-names");
+    for (folder, name) in [("a", "cube.crn"), ("b", "dxn.crn")] {
+        std::fs::create_dir(room.join(folder)).unwrap();
+        std::fs::write(room.join(folder).join("same.crn"), sample(name)).unwrap();
+    }
+    // two files with one name: the first has it
+    let (status, out, err) = crn_in(&room, &["dds", "a", "b"]);
+    let clash = "crn: b/same.crn: its DDS file would be same.dds, as that of a/same.crn\ncrn: 1 of 2 files written\n";
+    assert_eq!((status, out.as_str(), err.as_str()), (1, "same.dds: 1,232 bytes, 5 levels, 6 faces\n", clash));
+    // a file that is read, by its own name, by another way to it and behind a link
+    let file = sample("dxt1.crn");
+    std::fs::write(room.join("own.dds"), &file).unwrap();
+    std::fs::write(room.join("behind.dds"), &file).unwrap();
+    std::os::unix::fs::symlink("behind.dds", room.join("behind.crn")).unwrap();
+    for (words, input, out) in [
+        (vec!["dds", "own.dds"], "own.dds", "own.dds"),
+        (vec!["dds", "own.dds", "-o", "a/../own.dds"], "own.dds", "a/../own.dds"),
+        (vec!["dds", "own.dds", "-d", "../dds-names"], "own.dds", "../dds-names/own.dds"),
+        (vec!["dds", "behind.crn"], "behind.crn", "behind.dds"),
+    ] {
+        let why = format!("crn: {input}: its DDS file would be {out}, which is one of the files to read\n");
+        assert_eq!(crn_in(&room, &words), (1, String::new(), why));
+    }
+    assert!(std::fs::read(room.join("own.dds")).unwrap() == file && std::fs::read(room.join("behind.dds")).unwrap() == file);
+    assert_eq!(names(&room), ["a", "b", "behind.crn", "behind.dds", "own.dds", "same.dds"]);
 }
 
 #[test]
 fn a_full_disk_is_told() {
     let full = std::fs::OpenOptions::new().write(true).open("/dev/full").unwrap();
-    for words in [["info", "samples/dxn.crn"], ["check", "samples"]] {
+    for words in [&["info", "samples/dxn.crn"][..], &["check", "samples"], &["dds", "samples/dxn.crn", "-o", "-"]] {
         let run = Command::new(env!("CARGO_BIN_EXE_crn")).args(words).current_dir(root("")).stdout(full.try_clone().unwrap()).output().unwrap();
         assert_eq!(told(run), (1, String::new(), "crn: standard output: the disk is full\n".into()));
     }
@@ -130,6 +245,9 @@ fn files_that_cant_be_read_are_told() {
         (vec!["info", empty], format!("crn: {empty}: it is empty\n")),
         (vec!["unpack", empty], format!("crn: {empty}: it is empty\n")),
         (vec!["info", "/dev/zero"], "crn: /dev/zero: it is no file\n".into()),
+        (vec!["dds", "/dev/zero"], "crn: /dev/zero: it is no file\n".into()),
+        (vec!["dds", empty], format!("crn: {empty}: it is empty\n")),
+        (vec!["dds", none], format!("crn: {none}: there is no file below this folder whose name ends in .crn\n")),
         (vec!["unpack", "samples/dxn.crn", "--out", "README.md"], "crn: README.md: the folder can't be made: File exists (os error 17)\n".into()),
     ] {
         assert_eq!(told(crn(&words)), (1, String::new(), why), "{words:?}");
@@ -151,6 +269,14 @@ fn a_command_that_makes_no_sense_is_told() {
         &["unpack", "a", "b"],
         &["unpack", "a", "--level", "two"],
         &["unpack", "a", "--out"],
+        &["dds"],
+        &["dds", "a", "--out", "b"],
+        &["dds", "a", "-f"],
+        &["dds", "a", "-o"],
+        &["dds", "a", "b", "-o", "c"],
+        &["dds", "samples", "-o", "a"],
+        &["dds", "a", "-o", "b", "-d", "c"],
+        &["dds", "a", "-d", "b", "-d", "c"],
     ] {
         let (status, out, err) = told(crn(words));
         assert_eq!((status, out.as_str()), (2, ""), "{words:?}");
@@ -166,9 +292,10 @@ fn a_files_name_may_be_any_bytes() {
     let room = room("names");
     let name = room.join(std::ffi::OsStr::from_bytes(b"a\xffb.crn"));
     std::fs::write(&name, sample("dxn.crn")).unwrap();
-    for words in [&["info"][..], &["check"], &["unpack", "--level", "0", "--out", room.to_str().unwrap()]] {
+    let into = room.to_str().unwrap();
+    for words in [&["info"][..], &["check"], &["unpack", "--level", "0", "--out", into], &["dds", "-d", into]] {
         let run = Command::new(env!("CARGO_BIN_EXE_crn")).args(words).arg(&name).output().unwrap();
         assert_eq!(told(run).0, 0, "{words:?}");
     }
-    assert!(room.join(std::ffi::OsStr::from_bytes(b"a\xffb-level0.dxn")).exists());
+    assert!([&b"a\xffb-level0.dxn"[..], b"a\xffb.dds"].iter().all(|name| room.join(std::ffi::OsStr::from_bytes(name)).exists()));
 }

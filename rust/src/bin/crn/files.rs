@@ -1,7 +1,7 @@
 //! Files: read whole, written whole or not at all, found below folders, and gone through in order.
 use std::collections::BTreeMap;
 use std::ffi::OsString;
-use std::fs::{self, File};
+use std::fs::{self, File, Metadata};
 use std::io::{Error, ErrorKind, Write};
 use std::path::{Path, PathBuf};
 use std::sync::atomic::{AtomicUsize, Ordering};
@@ -17,15 +17,26 @@ pub fn trouble(error: &Error) -> String {
     }
 }
 
-/// A file's bytes, or why it can't be a CRN file at all.
-pub fn read(path: &Path) -> Result<Vec<u8>, String> {
-    let about = fs::metadata(path).map_err(|e| trouble(&e))?;
+/// That it is a file, and no folder or device.
+fn file(about: &Metadata) -> Result<(), String> {
     if about.is_dir() {
         return Err("it is a folder, and a file is wanted".into());
     }
     if !about.is_file() {
         return Err("it is no file".into());
     }
+    Ok(())
+}
+
+/// Whether a file stands already where one is to be written; or why none can.
+pub fn taken(path: &Path) -> Result<bool, String> {
+    fs::metadata(path).map_or(Ok(false), |about| file(&about).map(|_| true))
+}
+
+/// A file's bytes, or why it can't be a CRN file at all.
+pub fn read(path: &Path) -> Result<Vec<u8>, String> {
+    let about = fs::metadata(path).map_err(|e| trouble(&e))?;
+    file(&about)?;
     if about.len() > u32::MAX as u64 {
         return Err("it is longer than 4,294,967,295 bytes, which no CRN file is".into());
     }

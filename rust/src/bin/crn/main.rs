@@ -3,6 +3,7 @@
 
 mod bar;
 mod check;
+mod dds;
 mod files;
 mod info;
 mod say;
@@ -17,12 +18,14 @@ crn: what CRN files (crunched DXT textures) hold
   crn info FILE..                            a table for each file: its size, format, palettes and levels
   crn unpack FILE [--level N] [--out DIR]    the raw blocks of every level (or of level N), a file for each level and face,
                                              into DIR (or the current folder)
+  crn dds FILE..|DIR.. [-o OUT | -d DIR]     a DDS file of each file (of a folder: as `check` finds them), of its name with
+                                             .dds, in DIR (or the current folder); or OUT, of one file; - is standard output
   crn check FILE..|DIR.. [--json]            unpacks every level of every file (of a folder: all below it whose names end
                                              in .crn), and tells how many are accepted; --json: a line for each file
   crn help | crn version
 
 Exit status: 0 where every file and level was accepted; 1 where one was refused, or could not be read or written; 2 for a
-command that makes no sense. A refused level leaves no file.
+command that makes no sense. A refused level leaves no file, and its file no DDS file.
 ";
 
 /// Why a command did not end well.
@@ -48,6 +51,7 @@ fn run(words: &[OsString]) -> Result<(), Failure> {
     match command.to_string_lossy().as_ref() {
         "info" => info::run(words),
         "unpack" => unpack::run(words),
+        "dds" => dds::run(words),
         "check" => check::run(words),
         "help" | "--help" | "-h" => Ok(say::all(USAGE)?),
         "version" | "--version" | "-V" => Ok(say::all(concat!("crn ", env!("CARGO_PKG_VERSION"), "\n"))?),
