@@ -11,7 +11,10 @@ fn damaged_files_and_wild_arguments_break_no_promise() {
     assert_eq!((status, err.as_str()), (0, ""));
     let lines: Vec<&str> = out.lines().collect();
     assert_eq!(lines[0], "4000 rounds from seed 2026, no promise broken");
-    for (line, all) in [(lines[1], vec![1, 2, 3, 4, 5, 6, 7, 8]), (lines[2], vec![2, 4, 5, 6, 7, 8, 10, 11, 12, 14, 15])] {
+    let opened = (lines[1], &[1, 2, 3, 4, 5, 6, 7, 8][..]);
+    let unpacked = (lines[2], &[2, 4, 5, 6, 7, 8, 10, 11, 12, 14, 15][..]);
+    let written = (lines[3], &[2, 4, 5, 6, 7, 8, 12, 14, 16][..]);
+    for (line, all) in [opened, unpacked, written] {
         for refusal in all {
             assert!(line.split(&[',', ':']).any(|part| part.ends_with(&format!(" by {refusal}"))), "nothing was refused by {refusal}: {line}");
         }

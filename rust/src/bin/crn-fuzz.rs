@@ -1,5 +1,6 @@
 //! `crn-fuzz [--seed S] (--rounds N | MINUTES) FILE..`: damaged files and wild arguments for the package's functions, with guards around every buffer. What a call may
-//! answer and leave is held to the promises: see `opened` and `unpacked`. It ends at the first broken one, with the seed of the round that broke it.
+//! answer and leave is held to the promises: see `opened`, `unpacked` and `written`. It ends at the first broken one, with the seed of the
+//! round that broke it.
 #![forbid(unsafe_code)]
 
 use crunch_proved::raw::{self, Palettes, PalettesMut, Record};
@@ -106,8 +107,9 @@ impl Lent {
 /// How often each answer came, by its number.
 #[derive(Default)]
 struct Tally {
-    opened: [u64; 16],
-    unpacked: [u64; 16],
+    opened: [u64; 17],
+    unpacked: [u64; 17],
+    written: [u64; 17],
 }
 
 fn damaged(file: &[u8], dice: &mut Dice) -> Vec<u8> {
@@ -232,6 +234,83 @@ fn unpacked(record: &Record, file: &[u8], lent: &Lent, dice: &mut Dice, tally: &
     }
 }
 
+/// The formats that go out as DDS.
+const LETTERS: [(u32, &[u8; 4]); 4] = [(0, b"DXT1"), (2, b"DXT5"), (7, b"BC5U"), (9, b"BC4U")];
+
+/// The first 128 bytes of a DDS file, as Microsoft has them.
+fn dds_head(h: &raw::Header, level_0: usize) -> Vec<u8> {
+    let letters = |four: &[u8; 4]| u32::from_le_bytes(*four);
+    let mut words = [0; 32];
+    words[0] = letters(b"DDS ");
+    words[1..8].copy_from_slice(&[124, 0xA1007, h.height, h.width, level_0 as u32, 0, h.levels]);
+    words[19..22].copy_from_slice(&[32, 4, letters(LETTERS.iter().find(|l| l.0 == h.format).unwrap().1)]);
+    words[27] = 0x1000 | if h.levels > 1 { 0x400008 } else { 0 } | if h.faces > 1 { 8 } else { 0 };
+    words[28] = if h.faces > 1 { 0xFE00 } else { 0 };
+    words.iter().flat_map(|word| word.to_le_bytes()).collect()
+}
+
+/// A DDS file written. Refused by 2, 6, 16 or 12, in this order, it leaves the destination untouched. Refused where `unpack_level` refuses
+/// a level, with its number, its bit and the symbols so far, it leaves the file's bytes zero. Accepted, it leaves a header and the levels'
+/// blocks. Bytes beyond the file stay.
+fn written(record: &Record, file: &[u8], lent: &Lent, dice: &mut Dice, tally: &mut Tally) {
+    let h = &record.header;
+    let sizes: Vec<_> = (0..h.levels.min(13)).map(|level| raw::level_sizes(h, level)).collect();
+    let needed = raw::dds_bytes(h);
+    let face: usize = sizes.iter().map(|s| s.distance).sum();
+    let told = match raw::level_sizes(h, 0).refusal {
+        0 if LETTERS.iter().any(|l| l.0 == h.format) => (0, 128 + h.faces as usize * face),
+        0 => (16, 0),
+        _ => (2, 0),
+    };
+    assert_eq!((needed.refusal, needed.bytes), told, "the bytes of a DDS file are told wrongly");
+    let len = if dice.one_in(3) { dice.wild(needed.bytes as u64) as usize } else { needed.bytes + dice.below(40) }.min(200_000);
+    let mut dst = Guarded::<u8>::new(len, dice);
+    let before = dst.held().to_vec();
+    let answer = raw::write_dds(record, file, &lent.read(), dst.lent());
+    dst.check("the destination");
+    lent.check();
+    tally.written[answer.refusal as usize] += 1;
+    // of a level that no file has, only the record is judged: 2, 6 or 10
+    let judged = raw::unpack_level(record, file, &lent.read(), 13, 0, 0, &mut 0, &mut []).refusal;
+    let early = match judged {
+        2 | 6 => judged,
+        _ if needed.refusal != 0 => needed.refusal,
+        _ if len < needed.bytes => 12,
+        _ => 0,
+    };
+    let mut asked = raw::Written { refusal: early, level: 0, at: 0, bytes: 0, symbols: 0, cutouts: 0 };
+    if early != 0 {
+        assert_eq!(answer, asked, "before any level");
+        assert!(dst.held() == before, "refused by {early} before any level, and something was written");
+        return;
+    }
+    let mut whole = vec![0; needed.bytes];
+    let mut from = 128;
+    for (level, sizes) in (0..).zip(&sizes) {
+        let (mut blocks, mut budget) = (vec![0xA5; sizes.bytes], sizes.symbols);
+        let one = raw::unpack_level(record, file, &lent.read(), level, sizes.pitch, sizes.distance, &mut budget, &mut blocks);
+        asked.symbols += one.symbols;
+        if one.refusal != 0 {
+            asked = raw::Written { refusal: one.refusal, level, at: one.at, cutouts: 0, ..asked };
+            break;
+        }
+        asked.cutouts += one.cutouts;
+        for (f, surface) in blocks.chunks(sizes.distance).enumerate() {
+            whole[from + f * face..][..surface.len()].copy_from_slice(surface);
+        }
+        from += sizes.distance;
+    }
+    if asked.refusal == 0 {
+        asked.bytes = needed.bytes;
+        whole[..128].copy_from_slice(&dds_head(h, sizes[0].distance));
+    } else {
+        whole.fill(0);
+    }
+    assert_eq!(answer, asked, "a DDS file and its levels part ways");
+    assert!(dst.held()[..whole.len()] == whole, "refused by {}, and the file's bytes are others", asked.refusal);
+    assert!(dst.held()[whole.len()..] == before[whole.len()..], "a byte beyond the file was written");
+}
+
 /// A record that nobody's file gave.
 fn edited(record: &mut Record, dice: &mut Dice) {
     let h = &mut record.header;
@@ -271,6 +350,10 @@ fn round(samples: &[Vec<u8>], seed: u64, tally: &mut Tally) {
         let made = crn.unpack_level(level);
         assert!(sized.is_ok() || made.as_ref().err() == sized.as_ref().err(), "a level without sizes was unpacked");
         assert!(made.is_err() || made.map(|level| level.blocks.len()) == sized, "a level is longer or shorter than its sizes");
+        if crn.dds_bytes().is_ok_and(|bytes| bytes < 200_000) {
+            let dds = crn.to_dds().map_err(|no| no.refusal).map(|dds| dds.counts);
+            assert_eq!(dds, crn.unpack_levels(0).map(|levels| levels.counts), "a DDS file and its levels part ways");
+        }
     }
     if refusal != 0 {
         // the whole file's record, beside the damaged file
@@ -282,6 +365,11 @@ fn round(samples: &[Vec<u8>], seed: u64, tally: &mut Tally) {
     for _ in 0..4 {
         unpacked(&record, &file, &lent, dice, tally);
     }
+    if dice.one_in(8) && matches!(record.header.format, 2 | 7) {
+        // the same blocks with their channels in another order, for which DDS has no letters
+        record.header.format += 1;
+    }
+    written(&record, &file, &lent, dice, tally);
 }
 
 fn main() {
@@ -311,8 +399,8 @@ fn main() {
         n += 1;
     }
     println!("{n} rounds from seed {first}, no promise broken");
-    for (what, counts) in [("opened", tally.opened), ("unpacked", tally.unpacked)] {
-        let refused: Vec<String> = (1..16).filter(|r| counts[*r] > 0).map(|r| format!("{} by {r}", counts[r])).collect();
+    for (what, counts) in [("opened", tally.opened), ("unpacked", tally.unpacked), ("written", tally.written)] {
+        let refused: Vec<String> = (1..17).filter(|r| counts[*r] > 0).map(|r| format!("{} by {r}", counts[r])).collect();
         println!("{what}: {} accepted; refused: {}", counts[0], refused.join(", "));
     }
 }
