@@ -37,8 +37,8 @@ impl Dice {
         match self.below(8) {
             0 => 0,
             1 => n.wrapping_sub(1),
-            2 => n + 1,
-            3 => n + 4,
+            2 => n.wrapping_add(1),
+            3 => n.wrapping_add(4),
             4 => self.next(),
             5 => self.next() >> self.below(64),
             6 => u64::MAX,
@@ -183,7 +183,7 @@ fn unpacked(record: &Record, file: &[u8], lent: &Lent, dice: &mut Dice, tally: &
     let sizes = raw::level_sizes(&record.header, level);
     let faces = record.header.faces as usize;
     let apart = |tight: usize, dice: &mut Dice| match dice.below(4) {
-        0 => tight + 4 * dice.below(20),
+        0 => tight.wrapping_add(4 * dice.below(20)),
         1 => dice.wild(tight as u64) as usize,
         _ => tight,
     };
