@@ -1,4 +1,5 @@
--- The definition computed: a file of two levels, of 8 x 8 and of 4 x 4 pixels, in which every code is one bit and every bit is 0.
+-- The definition computed: a file of two levels, of 8 x 8 and of 4 x 4 pixels, in which every code is one bit and every bit is 0. The file
+-- serves examples of other crates too.
 use Prim.Native.Nat.{ℕ}
 use mathlib.Core.Path.{_≡_, refl}
 use mathlib.Core.List.{List, [], _∷_, _++_}
@@ -18,21 +19,20 @@ use Rattle.crn_format.specs.declared.Record.{Record}
 use Rattle.crn_sizes.specs.Sizes.{levelSizes}
 use Rattle.crn_levels.specs.Several.{onward, severalFrom, severalOf}
 
-none : Part
+abbrev pub none : Part
 none = record { offset = 0; size = 0; count = 0 }
 
-one : Part
+abbrev pub one : Part
 one = record { offset = 0; size = 0; count = 1 }
 
 -- a code of one bit, and no code
-bit : Table
+abbrev pub bit : Table
 bit = record { count = 1; lengths = 1 ∷ [] }
 
-empty : Table
+abbrev pub empty : Table
 empty = record { count = 0; lengths = [] }
 
-header : Header
-unfolding none one
+abbrev pub header : Header
 header =
     record {
       «header_size» = 0;
@@ -57,8 +57,7 @@ header =
       «level_offsets» = 0 ∷ 1 ∷ replicate 11 0;
     }
 
-small : Record
-unfolding header bit empty
+abbrev pub small : Record
 small =
     record {
       header = header;
@@ -66,14 +65,13 @@ small =
     }
 
 -- colour words 0 and 1, so that each block is a cut-out
-palettes : Palettes
+abbrev pub palettes : Palettes
 palettes = record { colorEnds = 65536 ∷ []; colorSels = 9 ∷ []; alphaEnds = []; alphaSels = [] }
 
-block : List ℕ
+abbrev pub block : List ℕ
 block = 0 ∷ 0 ∷ 1 ∷ 0 ∷ 9 ∷ 0 ∷ 0 ∷ 0 ∷ []
 
-four : List ℕ
-unfolding block
+abbrev pub four : List ℕ
 four = block ++ (block ++ (block ++ block))
 
 -- five blocks in 44 bytes that were 7; with two symbols for the second level it is refused, and its block is zero
@@ -89,5 +87,5 @@ shown : (severalOf small (0 ∷ 0 ∷ []) palettes 0 100 (replicate 44 7)
       left = 0;
       after = four ++ (replicate 8 0 ++ replicate 4 7);
     })
-unfolding small palettes four block header one none bit empty severalFrom onward levelSizes spelled below used firstCode longestUpTo room allFit nth seek next then run ofDrawn served fromBits charged budgeted endpointIndex selectorIndex endpointIndices planeEndpoints planeSelectors positionSelectors tileCounts tileMap encoding lastOr lasts lastRow chunk chunks level inside insides little half halves nthList blockOf chunkAt blockAt rowPainted facePainted painted rowCutouts faceCutouts cutouts kindOf withinLimits tablesHold levelStands palettesReach gridOf perPlane cutoutCount ended drawnLevel unpacking
+unfolding severalFrom onward levelSizes spelled below used firstCode longestUpTo room allFit nth seek next then run ofDrawn served fromBits charged budgeted endpointIndex selectorIndex endpointIndices planeEndpoints planeSelectors positionSelectors tileCounts tileMap encoding lastOr lasts lastRow chunk chunks level inside insides little half halves nthList blockOf chunkAt blockAt rowPainted facePainted painted rowCutouts faceCutouts cutouts kindOf withinLimits tablesHold levelStands palettesReach gridOf perPlane cutoutCount ended drawnLevel unpacking
 shown = (refl, refl)
