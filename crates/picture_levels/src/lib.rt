@@ -53,15 +53,15 @@ fn clear(dst: &mut [u8])
 }
 
 // The answer where a level is refused, after so many symbols, its own among them.
-fn refused(u: Unpacked, level: u32, symbols: u64) -> LevelsPut
-    ensures { λ r. ⌜ r ≡ refusedBy u level symbols ⌝ }
+fn refused(u: Unpacked, level: u32, drawn: u64) -> LevelsPut
+    ensures { λ r. ⌜ r ≡ refusedBy u level drawn ⌝ }
 {
     match u {
         Unpacked::Blocks {
             symbols: _,
             cutouts,
         } => LevelsPut::Through {
-            symbols: symbols,
+            symbols: drawn,
             cutouts: cutouts,
         },
         Unpacked::Refused {
@@ -72,7 +72,7 @@ fn refused(u: Unpacked, level: u32, symbols: u64) -> LevelsPut
             refusal: number,
             level: level,
             at: at,
-            symbols: symbols,
+            symbols: drawn,
         },
     }
 }
