@@ -31,15 +31,15 @@ put-bytes-settled _ _ _ _ _ _ _ p q = alike p q
 pub put-words-settled : Settled put-words.Post (λ a r (ws, (at, (dst, _))). now dst)
 put-words-settled _ _ _ _ _ _ _ p q = alike p q
 
-puts-settled : (w : Put) {before d e : List ℕ} {r s : LevelsPut} → Puts w before d r → Puts w before e s
+puts-settled : (w : Put) (before : List ℕ) {d e : List ℕ} {r s : LevelsPut} → Puts w before d r → Puts w before e s
     → _≡_ {A = LevelsPut × List ℕ} (r, d) (s, e)
 unfolding Puts
-puts-settled (put t x) p q = alike₂ (p .0) (q .0) (p .1) (q .1)
-puts-settled (stopped t) p q = alike₂ (p .0) (q .0) (p .1) (q .1)
+puts-settled (put t x) before p q = alike₂ (p .0) (q .0) (p .1) (q .1)
+puts-settled (stopped t) before p q = alike₂ (p .0) (q .0) (p .1) (q .1)
 
 pub put-levels-settled : Settled {X = LevelsPut × List ℕ} put-levels.Post
     (λ a r (header, (counts, (t₁, (t₂, (t₃, (t₄, (t₅, (bytes, (ce, (cs, (ae, (al, (head, (chain, (dst, _))))))))))))))). (r, now dst))
-put-levels-settled _ _ _ _ _ _ _ p q = puts-settled _ p q
+put-levels-settled _ _ _ _ _ _ _ p q = puts-settled _ _ p q
 
 pub dds-bytes-settled : Settled dds-bytes.Post theAnswer
 dds-bytes-settled _ _ _ _ _ _ _ p q = alike p q
