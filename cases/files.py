@@ -17,8 +17,9 @@ RUST_PARTS = dict(zip(reference.PARTS, ['color_endpoints', 'color_selectors', 'a
 RUST_TABLES = dict(zip(reference.TABLES, ['chunk', 'color_endpoint_delta', 'color_selector_delta', 'alpha_endpoint_delta', 'alpha_selector_delta']))
 
 
-# a file opened with lent words by part, all of them the fill byte; edits (field, index, value); calls (level, pitch, distance, budget, destination length)
-Case = collections.namedtuple('Case', 'file lent fill edits calls')
+# a file opened with lent words by part, all of them the fill byte; edits (field, index, value); calls (level, pitch, distance, budget,
+# destination length); dds: the destination length of each DDS call
+Case = collections.namedtuple('Case', 'file lent fill edits calls dds', defaults=[()])
 
 
 def bytes_of(cases):
@@ -26,6 +27,7 @@ def bytes_of(cases):
     for c in cases:
         out += [struct.pack('<I', len(c.file)), c.file, struct.pack('<4I', *(len(c.lent[p]) for p in reference.PARTS)), bytes([c.fill, len(c.edits)])]
         out += [struct.pack('<BII', *e) for e in c.edits] + [bytes([len(c.calls)])] + [struct.pack('<IQQQI', *call) for call in c.calls]
+        out += [bytes([len(c.dds)])] + [struct.pack('<I', size) for size in c.dds]
     return b''.join(out)
 
 
@@ -47,17 +49,25 @@ def edited(record, edits):
     return header, tables
 
 
+def record_of(case, opened):
+    """The record that the calls of a case are handed."""
+    return edited(reference.handed(opened[2], opened[3]), case.edits)
+
+
 def answers_of(case):
-    """What reference.py says of the opening, and of each call."""
+    """What reference.py says of the opening, of each level call, and of each DDS call: what it answers, and what has to be lent."""
     opened = reference.opening(case.file, case.lent)
-    record = edited(reference.handed(opened[2], opened[3]), case.edits) if case.calls else None
-    return opened, [reference.unpacking(record, case.file, opened[4], *call[:4], bytes([case.fill]) * call[4]) for call in case.calls]
+    record = record_of(case, opened) if case.calls or case.dds else None
+    levels = [reference.unpacking(record, case.file, opened[4], *call[:4], bytes([case.fill]) * call[4]) for call in case.calls]
+    dds = [reference.dds_out(record, case.file, opened[4], bytes([case.fill]) * size) for size in case.dds]
+    return opened, levels, [(said, reference.dds_bytes(record[0])) for said in dds]
 
 
-def lines_of(opened, levels):
+def lines_of(opened, levels, dds):
     number, _, header, tables, buffers = opened
     lines = ['open %d %s %s' % (number, reference.fnv(reference.palette_bytes(buffers)), reference.fnv(reference.record_bytes(header, tables)))]
-    return lines + ['level %d %d %d %d %s' % (no, symbols, cutouts, left, reference.fnv(dst)) for no, symbols, cutouts, left, _, dst in levels]
+    lines += ['level %d %d %d %d %s' % (no, symbols, cutouts, left, reference.fnv(dst)) for no, symbols, cutouts, left, _, dst in levels]
+    return lines + ['dds %d %d %d %d %d %d %s %d %d' % (*said[:6], reference.fnv(said[6]), *needed) for said, needed in dds]
 
 
 def held_to_the_program(cases, lines):

@@ -1,6 +1,7 @@
 #!/usr/bin/env python3
 """levels.py SHARED COUNT: COUNT levels of files, whole and damaged, unpacked by the proved program (target/bin/crn_cases, as `rt check crn_cases` leaves it), by
-reference.py and by the Rust, and where they differ. stored.py has the gate's cases of levels from level_cases.py.
+reference.py and by the Rust, and where they differ; and each file written as a DDS file by the first two. stored.py has the gate's cases of
+levels from level_cases.py and of DDS files from dds_cases.py.
 
 The Rust lays faces over each other (row 34 of docs/DIFFERENCES.md): it is given room for one face and four bytes, and what it leaves there is held to our faces laid in the
 same way. With the header's faces set to 1, 2, .. it leaves each face in turn on top, so that every face of a cube map is compared."""
@@ -196,6 +197,13 @@ def random_calls(rng, case, opened):
         yield level, pitch, distance, budget, room
 
 
+def random_dds(rng, case, opened):
+    """A DDS call or two, most with room."""
+    number, size = reference.dds_bytes(files.record_of(case, opened)[0])
+    size = size if number == 0 and size < MOST - 40 else 150
+    return [size + rng.choice([0, 0, 0, 1, 40, -1]) for _ in range(rng.choice([1, 1, 2]))]
+
+
 def damaged_level(rng, file):
     """A file with one fault where its levels are: a bit or a byte changed, the end cut off, or an offset of a level."""
     first = int.from_bytes(file[70:74], 'big')
@@ -225,7 +233,7 @@ def scaled(mkcrn, count):
             record = reference.handed(opened[2], opened[3])
             edits = [random_edit(rng, record, file) for _ in range(rng.randint(1, 3))] if rng.random() < .25 else []
             case = files.Case(file, lent, fill, edits, [])
-            case = case._replace(calls=[c for c in random_calls(rng, case, opened) if c[4] <= MOST])
+            case = case._replace(calls=[c for c in random_calls(rng, case, opened) if c[4] <= MOST], dds=random_dds(rng, case, opened))
             done += len(case.calls)
             yield case
 
@@ -234,8 +242,10 @@ def main():
     shared, count = os.path.abspath(sys.argv[1]), int(sys.argv[2])
     cases = list(scaled(files.generator(shared), count))
     answers = [files.answers_of(c) for c in cases]
-    faults = compare(shared, [(c,) + a for c, a in zip(cases, answers)])
+    faults = compare(shared, [(c,) + a[:2] for c, a in zip(cases, answers)])
     print('%d cases, %d levels; %d answers of the Rust differ by no listed row' % (len(cases), sum(len(c.calls) for c in cases), faults))
+    written = collections.Counter(said[0] for a in answers for said, _ in a[2])
+    print('%d DDS files; %s' % (sum(written.values()), ', '.join('%d: %d' % w for w in sorted(written.items()))))
     same = files.held_to_the_program(cases, [line for a in answers for line in files.lines_of(*a)])
     sys.exit(bool(faults) or not same)
 

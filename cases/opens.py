@@ -57,7 +57,7 @@ def main():
     shared, count = os.path.abspath(sys.argv[1]), int(sys.argv[2])
     cases = [as_case(*c) for c in scaled(files.generator(shared), count)]
     answers = [files.answers_of(c) for c in cases]
-    faults = files.compare_openings(shared, [(c.file, opened) for c, (opened, _) in zip(cases, answers)])
+    faults = files.compare_openings(shared, [(c.file, opened) for c, (opened, _, _) in zip(cases, answers)])
     print('%d cases; %d answers of the Rust differ by no listed row' % (len(cases), faults))
     same = files.held_to_the_program(cases, [line for a in answers for line in files.lines_of(*a)])
     sys.exit(bool(faults) or not same)

@@ -1,4 +1,5 @@
-"""A plain reading of document 01, written from its text alone: neither from the proved code nor from the Rust.
+"""A plain reading of document 01, written from its text alone, and of request 1 in document 02, from its text and the choices of
+docs/DECISIONS.md: neither from the proved code nor from the Rust.
 
 It makes the answers that the stored cases are held to, and stands beside the Rust in the comparisons at scale. Speed matters little here;
 that each line can be held against a sentence of the document does. A refusal is an exception with its number and the bit that it names."""
@@ -254,13 +255,21 @@ def level_segment(header, file, level):
     return header['offsets'][level], header['offsets'][level + 1] if level + 1 < header['levels'] else len(file)
 
 
-def before_the_first_draw(record, file, lent, level, pitch, distance, room):
-    """The refusal, or 0: "2, 6, 10, 4, 5, 11, 12"."""
+def of_the_record(record):
+    """The refusal of a handed record, or 0."""
     h, tables = record
     if not within_limits(h):
         return 2
     if any(count > 8192 or count > 0 and not is_code(lengths[:count]) for count, lengths in tables.values()):
         return 6
+    return 0
+
+
+def before_the_first_draw(record, file, lent, level, pitch, distance, room):
+    """The refusal, or 0: "2, 6, 10, 4, 5, 11, 12"."""
+    h, number = record[0], of_the_record(record)
+    if number:
+        return number
     if level >= h['levels']:
         return 10
     start, end = level_segment(h, file, level)
@@ -343,6 +352,76 @@ def unpacking(record, file, lent, level, pitch, distance, budget, destination):
         if h['format'] == 0 and int.from_bytes(block[:2], 'little') < int.from_bytes(block[2:4], 'little'):
             cutouts += 1
     return number, reader.drawn, cutouts, reader.budget, bit, bytes(out)
+
+
+# ------------------------------------------------------------------ a DDS file (document 02, CR 1)
+
+LETTERS = {0: b'DXT1', 2: b'DXT5', 7: b'BC5U', 9: b'BC4U'}        # "Formats 0, 2, 7 and 9"; any other is 16
+
+
+def surfaces(h):
+    """The bytes of each level of one face, from large to small."""
+    grids = [Grid(h, level, 0, 0) for level in range(h['levels'])]
+    return [grid.rows * grid.columns * grid.bytes for grid in grids]
+
+
+def dds_header(h):
+    """The magic and the 124 bytes of Microsoft's DDS_HEADER, field by field."""
+    mipped, cube = h['levels'] > 1, h['faces'] == 6
+    pixel_format = {
+        'dwSize': 32,
+        'dwFlags': 0x4,                                             # the four letters are valid
+        'dwFourCC': int.from_bytes(LETTERS[h['format']], 'little'),
+        'dwRGBBitCount': 0, 'dwRBitMask': 0, 'dwGBitMask': 0, 'dwBBitMask': 0, 'dwABitMask': 0,
+    }
+    head = {
+        'dwSize': 124,
+        'dwFlags': 0x1 + 0x2 + 0x4 + 0x1000 + 0x20000 + 0x80000,    # caps, height, width, pixel format, mip map count, linear size
+        'dwHeight': h['height'],
+        'dwWidth': h['width'],
+        'dwPitchOrLinearSize': surfaces(h)[0],                      # level 0 of one face
+        'dwDepth': 0,
+        'dwMipMapCount': h['levels'],
+    }
+    reserved = [0] * 11
+    caps = {
+        'dwCaps': 0x1000 + (0x400000 if mipped else 0) + (0x8 if mipped or cube else 0),      # texture, mip map, complex
+        'dwCaps2': 0x200 + 0x400 + 0x800 + 0x1000 + 0x2000 + 0x4000 + 0x8000 if cube else 0,  # a cube map and each of its faces
+        'dwCaps3': 0, 'dwCaps4': 0, 'dwReserved2': 0,
+    }
+    words = [*head.values(), *reserved, *pixel_format.values(), *caps.values()]
+    return b'DDS ' + b''.join(word.to_bytes(4, 'little') for word in words)
+
+
+def dds_bytes(h):
+    """(refusal, bytes): what has to be lent for the DDS file of a header."""
+    if not within_limits(h):
+        return 2, 0
+    if h['format'] not in LETTERS:
+        return 16, 0
+    return 0, 4 + 124 + h['faces'] * sum(surfaces(h))
+
+
+def dds_out(record, file, lent, destination):
+    """(refusal, level, bit, bytes, symbols, cut-outs, destination)."""
+    h, number = record[0], of_the_record(record)
+    if number == 0:
+        number, size = dds_bytes(h)
+    if number == 0 and len(destination) < size:
+        number = 12
+    if number:
+        return number, 0, 0, 0, 0, 0, destination
+    faces, symbols, cutouts = [b''] * h['faces'], 0, 0
+    for level in range(h['levels']):
+        grid = Grid(h, level, 0, 0)
+        pitch = grid.columns * grid.bytes
+        each = grid.rows * pitch
+        number, drawn, cut, _, bit, out = unpacking(record, file, lent, level, pitch, each, None, bytes(h['faces'] * each))
+        symbols, cutouts = symbols + drawn, cutouts + cut
+        if number:
+            return number, level, bit, 0, symbols, 0, bytes(size) + destination[size:]
+        faces = [face + out[f * each:(f + 1) * each] for f, face in enumerate(faces)]
+    return 0, 0, 0, size, symbols, cutouts, dds_header(h) + b''.join(faces) + destination[size:]
 
 
 # ------------------------------------------------------------------ bytes and hashes

@@ -1,9 +1,12 @@
 #!/usr/bin/env python3
-"""stored.py SHARED: makes crates/crn_cases/stdin and stdout anew, from the cases of opens.py and of level_cases.py. The expected answers are reference.py's; what the Rust opens
-and unpacks too is compared with the Rust's, and nothing is written where it differs by no row of docs/DIFFERENCES.md."""
+"""stored.py SHARED: makes crates/crn_cases/stdin and stdout anew, from the cases of opens.py, level_cases.py and dds_cases.py. The expected
+answers are reference.py's; what the Rust opens and unpacks too is compared with the Rust's, each surface of a DDS file as a level by
+itself, and nothing is written where it differs by no row of docs/DIFFERENCES.md."""
+import collections
 import os
 import sys
 
+import dds_cases
 import files
 import level_cases
 import levels
@@ -18,17 +21,31 @@ def write(name, data):
 def main():
     shared = os.path.abspath(sys.argv[1])
     mkcrn = files.generator(shared)
-    of_opening, of_levels = [opens.as_case(*c) for c in opens.stored(mkcrn)], list(level_cases.stored(mkcrn))
-    cases = of_opening + of_levels
+    of_opening = [opens.as_case(*c) for c in opens.stored(mkcrn)]
+    of_levels = [dds_cases.exactly(c) for c in level_cases.stored(mkcrn)]
+    of_dds = list(dds_cases.stored(mkcrn))
+    cases = of_opening + of_levels + of_dds
     answers = [files.answers_of(c) for c in cases]
-    faults = files.compare_openings(shared, [(c.file, opened) for c, (opened, _) in zip(of_opening, answers)])
-    print('%d cases of opening, %d bytes; %d answers of the Rust differ by no listed row' % (len(of_opening), len(files.bytes_of(of_opening)), faults))
-    more = levels.compare(shared, [(c,) + a for c, a in zip(of_levels, answers[len(of_opening):])])
-    calls = [answer for _, given in answers for answer in given]
-    print('%d cases of levels with %d calls, %d bytes; %d answers of the Rust differ by no listed row' % (len(of_levels), len(calls), len(files.bytes_of(of_levels)), more))
+    results = [(c,) + a for c, a in zip(cases, answers)]
+
+    def told(what, some, faults):
+        size = len(files.bytes_of(some))
+        print('%d cases of %s, %d bytes; %d answers of the Rust differ by no listed row' % (len(some), what, size, faults))
+        return faults
+
+    opened_files = [(c.file, opened) for c, opened, _, _ in results[:len(of_opening)]]
+    faults = told('opening', of_opening, files.compare_openings(shared, opened_files))
+    calls = [answer for _, _, given, _ in results for answer in given]
+    faults += told('levels with %d calls' % len(calls), of_levels, levels.compare(shared, [r[:3] for r in results if r[0].calls]))
+    written = [said for _, _, _, dds in results for said, _ in dds]
+    faults += told('DDS files (each case of levels has one too) with %d calls' % len(written), of_dds,
+                   levels.compare(shared, [dds_cases.as_levels(c, opened, dds) for c, opened, _, dds in results if dds]))
+    for answer, times in sorted(collections.Counter(said[0] for said in written).items()):
+        print('%6d  DDS files %s' % (times, 'refused by %d' % answer if answer else 'written'))
     missing = {0, 2, 4, 5, 6, 7, 8, 10, 11, 12, 13, 14, 15} - {answer[0] for answer in calls}
-    print('answers that no call of a level has: %s' % (sorted(missing) or 'none'))
-    if faults or more or missing:
+    missing |= {0, 2, 4, 5, 6, 7, 8, 12, 13, 14, 16} - {said[0] for said in written}
+    print('answers that no call has: %s' % (sorted(missing) or 'none'))
+    if faults or missing:
         sys.exit(1)
     write('stdin', files.bytes_of(cases))
     write('stdout', ''.join(line + '\n' for a in answers for line in files.lines_of(*a)).encode())

@@ -119,6 +119,13 @@ fn cases_are_answered_as_the_gates_program_answers_them() {
             let a = raw::unpack_level(&record, file, &palettes, level, pitch, distance, &mut budget, &mut dst);
             out += &format!("level {} {} {} {budget} {:016x}\n", a.refusal, a.symbols, a.cutouts, hash(dst));
         }
+        for _ in 0..cases.number(1) {
+            let mut dst = vec![fill; cases.number(4) as usize];
+            let palettes = Palettes { color_endpoints: &ce, color_selectors: &cs, alpha_endpoints: &ae, alpha_selectors: &al };
+            let (w, needed) = (raw::write_dds(&record, file, &palettes, &mut dst), raw::dds_bytes(&record.header));
+            let numbers = format!("{} {} {} {} {} {}", w.refusal, w.level, w.at, w.bytes, w.symbols, w.cutouts);
+            out += &format!("dds {numbers} {:016x} {} {}\n", hash(dst), needed.refusal, needed.bytes);
+        }
     }
     assert!(cases.0.is_empty());
     let stored = std::fs::read_to_string(root("crates/crn_cases/stdout")).unwrap();

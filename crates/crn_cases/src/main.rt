@@ -1,4 +1,5 @@
-// Opens files and unpacks their levels, case by case from standard input, and writes a line for each call. docs/CASES.md has the format.
+// Opens files, unpacks their levels and writes them as DDS files, case by case from standard input, and writes a line for each call.
+// docs/CASES.md has the format.
 
 ghost use mathlib.Core.Path.{_≡_};
 ghost use Prim.Native.Nat.{_+_, _<_, _≤_};
@@ -8,8 +9,11 @@ use crn_format::Header;
 use crn_format::Part;
 use crn_format::Record;
 use crn_format::Table;
+use crn_formats::Counts;
+use crunch::Needed;
 use crunch::Opened;
 use crunch::Unpacked;
+use crunch::Written;
 use libc::STDIN_FILENO;
 use libc::STDOUT_FILENO;
 
@@ -238,10 +242,21 @@ fn level_line(u: Unpacked, left: u64, dst: &[u8]) {
     text(b"\n");
 }
 
-fn numbers(refusal: u64, symbols: u64, cutouts: u64) {
-    number_after_space(refusal);
-    number_after_space(symbols);
-    number_after_space(cutouts);
+fn numbers(a: u64, b: u64, c: u64) {
+    number_after_space(a);
+    number_after_space(b);
+    number_after_space(c);
+}
+
+// How the writing of a DDS file ended, what the destination holds, and what had to be lent.
+fn dds_line(w: Written, dst: &[u8], n: Needed) {
+    text(b"dds");
+    numbers(w.refusal as u64, w.level as u64, w.at as u64);
+    numbers(w.bytes as u64, w.symbols, w.cutouts);
+    hash_after_space(hash_of8(dst, fnv::OFFSET));
+    number_after_space(n.refusal as u64);
+    number_after_space(n.bytes as u64);
+    text(b"\n");
 }
 
 // ---- cases
@@ -357,7 +372,112 @@ fn level_calls(
     0
 }
 
-// The edits of the record that opening handed back, then the level calls.
+// A DDS file written into a destination of just the lent length, each byte filled first.
+fn write_filled(
+    file: Record,
+    bytes: &[u8],
+    color_endpoints: &[u32],
+    color_selectors: &[u32],
+    alpha_endpoints: &[u16],
+    alpha_selectors: &[u16],
+    value: u8,
+    dst: &mut [u8],
+) {
+    let header = file.header;
+    let counts = Counts {
+        chunk: file.tables.chunk_encoding.count,
+        color_ends: file.tables.color_endpoint_delta.count,
+        color_sels: file.tables.color_selector_delta.count,
+        alpha_ends: file.tables.alpha_endpoint_delta.count,
+        alpha_sels: file.tables.alpha_selector_delta.count,
+    };
+    fill8(dst, value);
+    let w = crunch::write_dds(
+        header,
+        counts,
+        &file.tables.chunk_encoding.lengths,
+        &file.tables.color_endpoint_delta.lengths,
+        &file.tables.color_selector_delta.lengths,
+        &file.tables.alpha_endpoint_delta.lengths,
+        &file.tables.alpha_selector_delta.lengths,
+        bytes,
+        color_endpoints,
+        color_selectors,
+        alpha_endpoints,
+        alpha_selectors,
+        dst,
+    );
+    dds_line(w, dst, crunch::dds_bytes(header));
+}
+
+// The next DDS call, or 1 or 2, as for a case.
+fn dds_call(
+    file: Record,
+    bytes: &[u8],
+    color_endpoints: &[u32],
+    color_selectors: &[u32],
+    alpha_endpoints: &[u16],
+    alpha_selectors: &[u16],
+    value: u8,
+    space: &mut [u8],
+) -> u32 {
+    let mut head = [0u8; 4];
+    if !take(&mut head) {
+        return 1;
+    }
+    let n = crn_utils::little32(&head, 0) as usize;
+    if space.len() < n {
+        return 2;
+    }
+    write_filled(
+        file,
+        bytes,
+        color_endpoints,
+        color_selectors,
+        alpha_endpoints,
+        alpha_selectors,
+        value,
+        &mut space[..n],
+    );
+    0
+}
+
+fn dds_calls(
+    file: Record,
+    bytes: &[u8],
+    color_endpoints: &[u32],
+    color_selectors: &[u32],
+    alpha_endpoints: &[u16],
+    alpha_selectors: &[u16],
+    value: u8,
+    space: &mut [u8],
+) -> u32 {
+    let mut head = [0u8; 1];
+    if !take(&mut head) {
+        return 1;
+    }
+    let n = crn_utils::byte(&head, 0);
+    let mut k: u32 = 0;
+    while k < n {
+        let ended = dds_call(
+            file,
+            bytes,
+            color_endpoints,
+            color_selectors,
+            alpha_endpoints,
+            alpha_selectors,
+            value,
+            space,
+        );
+        if ended != 0 {
+            return ended;
+        }
+        k += 1;
+    }
+    0
+}
+
+// The edits of the record that opening handed back, then the level calls and the DDS calls.
 fn levels(
     o: Opened,
     bytes: &[u8],
@@ -373,7 +493,20 @@ fn levels(
         return 1;
     }
     let file = e.file;
-    level_calls(
+    let ended = level_calls(
+        file,
+        bytes,
+        color_endpoints,
+        color_selectors,
+        alpha_endpoints,
+        alpha_selectors,
+        value,
+        space,
+    );
+    if ended != 0 {
+        return ended;
+    }
+    dds_calls(
         file,
         bytes,
         color_endpoints,
