@@ -1,9 +1,10 @@
 #!/usr/bin/env python3
-"""files.py SHARED OUT: the files of the benchmarks, made of the parts of SHARED/oracle/mkcrn.py from fixed seeds.
+"""files.py SHARED OUT WHICH: the files of a benchmark (opens, table, dds), made of the parts of SHARED/oracle/mkcrn.py from fixed seeds.
 
 - OUT/CODES-FORMAT-ENTRIES-N.crn, for bench/opens.rs: every palette has ENTRIES entries; one level is there for the code tables that it needs. CODES is `any` for
   the generator's codes, whose lengths have nothing to do with how often a symbol comes, and `fitted` for Huffman's, as an encoder makes them.
-- OUT/level-FORMAT-SIDE.crn, for bench/table.rs: square, with all its levels; deltas are mostly small, and codes are fitted.
+- OUT/level-FORMAT-SIDE.crn, for bench/table.rs and bench/dds.rs: square, with all its levels; deltas are mostly small, and codes are fitted.
+- OUT/cube-FORMAT-SIDE.crn, for bench/dds.rs: the same with six faces.
 - OUT/small-NNN.crn, for bench/table.rs: a thousand like these, the formats by turns, of 4 to 64 pixels a side and 10 to 60 entries a palette."""
 import collections
 import heapq
@@ -94,19 +95,39 @@ def write(folder, name, data):
         out.write(data)
 
 
-def main(out):
+def for_opens(out):
     for kind, fmt in FORMATS:
         for codes, table in [('fitted', fitted_table), ('any', any_table)]:
             for entries, side in SIDES.items():
                 for n in range(8):
-                    write(out, '%s-%s-%d-%d' % (codes, kind, entries, n), file(random.Random(1000 * entries + 10 * fmt + n), fmt, entries, [(side, side)], table, AnyEntry))
-        for side, entries in ENTRIES.items():
-            write(out, 'level-%s-%d' % (kind, side), file(random.Random(100 * side + fmt), fmt, entries, halved(side, side), fitted_table, NearEntry))
+                    rng = random.Random(1000 * entries + 10 * fmt + n)
+                    write(out, '%s-%s-%d-%d' % (codes, kind, entries, n), file(rng, fmt, entries, [(side, side)], table, AnyEntry))
+
+
+def with_levels(out, name, sides, faces=1):
+    for kind, fmt in FORMATS:
+        for side in sides:
+            made = file(random.Random(100 * side + fmt), fmt, ENTRIES[side], halved(side, side), fitted_table, NearEntry, faces)
+            write(out, '%s-%s-%d' % (name, kind, side), made)
+
+
+def small(out):
     for n in range(1000):
         rng = random.Random(n)
         sides = halved(rng.randint(4, 64), rng.randint(4, 64))
         write(out, 'small-%03d' % n, file(rng, FORMATS[n % 4][1], rng.randint(10, 60), sides, fitted_table, NearEntry))
 
 
+def main(out, which):
+    if which == 'opens':
+        for_opens(out)
+    else:
+        with_levels(out, 'level', ENTRIES)
+    if which == 'table':
+        small(out)
+    if which == 'dds':
+        with_levels(out, 'cube', [64, 256, 1024], 6)
+
+
 if __name__ == '__main__':
-    main(sys.argv[2])
+    main(*sys.argv[2:])
