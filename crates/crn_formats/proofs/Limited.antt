@@ -1,5 +1,5 @@
 -- What the limits (refusal 2) say of a header.
-use Prim.Native.Nat.{ℕ, _≤_}
+use Prim.Native.Nat.{ℕ, _≤_, _<_}
 use mathlib.Core.Bool.{Bool, true, false, false≢true}
 use mathlib.Core.Path.{_≡_, refl}
 use native.Mathlib.Omega.{arith}
@@ -15,14 +15,17 @@ use Rattle.crn_format.proofs.Choices.{both-hold}
 entries : (uses : Bool) (p : Part) → entriesFit uses p ≡ true → p .count ≤ maxEntries
 entries uses p e = leb-true _ _ (both-hold (leb (pick uses 1 0) (p .count)) _ e .1)
 
-one-or-six : (n : ℕ) (a b : Bool) → eqb n 1 ≡ a → eqb n 6 ≡ b → either a b ≡ true → n ≤ 6
-one-or-six n true b e f h = let z : n ≡ 1 = eqb-true n 1 e in omega arith
-one-or-six n false true e f h = let z : n ≡ 6 = eqb-true n 6 f in omega arith
+one-or-six : (n : ℕ) (a b : Bool) → eqb n 1 ≡ a → eqb n 6 ≡ b → either a b ≡ true → (0 < n) × (n ≤ 6)
+one-or-six n true b e f h = let z : n ≡ 1 = eqb-true n 1 e in (omega arith, omega arith)
+one-or-six n false true e f h = let z : n ≡ 6 = eqb-true n 6 f in (omega arith, omega arith)
 one-or-six n false false e f h = absurd (false≢true h)
 
 pub record Limited (h : Header) : Type 0 where
   pub width : h .width ≤ maxSide
   pub height : h .height ≤ maxSide
+  pub level : 0 < h .levels
+  pub levels : h .levels ≤ maxLevels
+  pub face : 0 < h .faces
   pub faces : h .faces ≤ 6
   pub known : known (kindOf (h .format)) ≡ true
   pub colorEnds : h .«color_endpoints» .count ≤ maxEntries
@@ -41,10 +44,14 @@ limited h e =
     let p5 = both-hold (entriesFit (hasColor (kindOf (h .format))) (h .«color_endpoints»)) _ (p4 .1) in
     let p6 = both-hold (entriesFit (hasColor (kindOf (h .format))) (h .«color_selectors»)) _ (p5 .1) in
     let p7 = both-hold (entriesFit (hasAlpha (kindOf (h .format))) (h .«alpha_endpoints»)) _ (p6 .1) in
+    let faces = one-or-six (h .faces) (eqb (h .faces) 1) (eqb (h .faces) 6) refl refl (p3 .0) in
     record {
       width = leb-true _ _ (both-hold (leb 1 (h .width)) _ (p0 .0) .1);
       height = leb-true _ _ (both-hold (leb 1 (h .height)) _ (p1 .0) .1);
-      faces = one-or-six (h .faces) (eqb (h .faces) 1) (eqb (h .faces) 6) refl refl (p3 .0);
+      level = leb-true _ _ (both-hold (leb 1 (h .levels)) _ (p2 .0) .0);
+      levels = leb-true _ _ (both-hold (leb 1 (h .levels)) _ (p2 .0) .1);
+      face = faces .0;
+      faces = faces .1;
       known = p4 .0;
       colorEnds = entries (hasColor (kindOf (h .format))) (h .«color_endpoints») (p5 .0);
       colorSels = entries (hasColor (kindOf (h .format))) (h .«color_selectors») (p6 .0);

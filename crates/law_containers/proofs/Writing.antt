@@ -17,22 +17,18 @@ use Rattle.crn_format.specs.Grid.{placeOf}
 use Rattle.crn_format.specs.Unpacking.{tablesHold}
 use Rattle.crn_format.specs.declared.Header.{Header}
 use Rattle.crn_format.specs.declared.Record.{Record}
+use Rattle.crn_formats.proofs.Limited.{limited}
 use Rattle.crn_laws.specs.Scripts.{Draws}
 use Rattle.crn_laws.proofs.Theorems.{only-script}
 use Rattle.picture.specs.Kinds.{goesOut}
 use Rattle.picture.specs.Surfaces.{pictureOf}
 use Rattle.picture.specs.Writing.{Sums, nothing, Stop, Put, put, stopped, putFrom}
 use Rattle.picture.specs.Writing.{Container, Writing, written, refused, finished, early, writing}
-use Rattle.picture.proofs.Carried.{carried}
 use Rattle.law_containers.specs.Standing.{givenAt, gridAt, Sound, Stamps, Fair, Checked, Writable, Standing}
 use Rattle.law_containers.specs.Standing.{Early, limits, tables, format, room, Refuses, WritingEnds}
 use Rattle.law_containers.proofs.Filling.{in-surface, scriptsIn, Filled, PutEnds, put-ends}
 use Rattle.law_containers.proofs.Passing.{passes}
 use Rattle.law_containers.proofs.Numbers.{stops-unfair, not-fair, not-checked}
-
-at-least-one : {n : ℕ} (six : Bool) → n ≡ pick six 6 1 → 0 < n
-at-least-one true e = omega arith
-at-least-one false e = omega arith
 
 -- what was written could be, and what was refused could not
 
@@ -71,7 +67,7 @@ module _ (c : Container) (r : Record) (file : List ℕ) (p : Palettes) (dst : Li
 module _ (c : Container) (r : Record) (file : List ℕ) (p : Palettes) (dst : List ℕ) {head : ℕ}
     (sound : Sound (pictureOf (r .header)) head (c .plan)) (checked : Checked c r dst) where
   some : 0 < r .header .faces
-  some = let w = carried (r .header) (checked .limits) (checked .out) in at-least-one (w .six) (w .faces)
+  some = limited (r .header) (checked .limits) .face
 
   region : length (take (c .plan .total) dst) ≡ c .plan .total
   region = length-take-le (c .plan .total) dst (checked .room)

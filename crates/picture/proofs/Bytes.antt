@@ -1,18 +1,14 @@
 -- The surfaces of a header within the limits: how many bytes they have, and that a face's levels lie in the whole. Assumes nothing.
 use Prim.Native.Nat.{ℕ, zero, suc, _+_, _*_, _≤_, _<_}
-use mathlib.Core.Path.{_≡_, refl, ap, _∙_}
-use mathlib.Core.Bool.{Bool, true, false, false≢true}
+use mathlib.Core.Path.{_≡_, ap, _∙_}
+use mathlib.Core.Bool.{true}
 use native.Mathlib.Numerals.{add-one}
 use native.Mathlib.Omega.{arith}
 use native.Mathlib.Nat.{suc-mul, mul-le-mul}
-use lib.Dec.{leb, eqb}
-use borrow.Author.Tests.{leb-true, lt-ltb, eqb-true}
-use Rattle.crn_format.specs.Choice.{either}
-use Rattle.crn_format.specs.Limits.{maxSide, maxLevels}
-use Rattle.crn_format.specs.Header.{between, kindOf, withinLimits}
+use borrow.Author.Tests.{lt-ltb}
+use Rattle.crn_format.specs.Header.{kindOf, withinLimits}
 use Rattle.crn_format.specs.Unpacking.{gridOf}
 use Rattle.crn_format.specs.declared.Header.{Header}
-use Rattle.crn_format.proofs.Choices.{both-hold}
 use Rattle.crn_formats.proofs.Limited.{limited}
 use Rattle.crn_formats.proofs.ByFormat.{bytes-at-most}
 use Rattle.crn_sizes.specs.Sizes.{levelSizes}
@@ -27,38 +23,6 @@ pub chain-after : (p : Picture) (l : ℕ) → chainTo p (l + 1) ≡ chainTo p l 
 chain-after p l = ap (chainTo p) (add-one l) ∙ chain-next p l
 
 module _ (h : Header) (limits : withinLimits h ≡ true) where
-  -- ---- how many faces and levels
-
-  at-least : (n : ℕ) (a b : Bool) → eqb n 1 ≡ a → eqb n 6 ≡ b → either a b ≡ true → 0 < n
-  at-least n true b e f t = let z : n ≡ 1 = eqb-true n 1 e in omega arith
-  at-least n false true e f t = let z : n ≡ 6 = eqb-true n 6 f in omega arith
-  at-least n false false e f t = absurd (false≢true t)
-
-  pub some-face : 0 < h .faces
-  unfolding withinLimits
-  some-face =
-      let p0 = both-hold (between 1 maxSide (h .width)) _ limits in
-      let p1 = both-hold (between 1 maxSide (h .height)) _ (p0 .1) in
-      let p2 = both-hold (between 1 maxLevels (h .levels)) _ (p1 .1) in
-      let p3 = both-hold (either (eqb (h .faces) 1) (eqb (h .faces) 6)) _ (p2 .1) in
-      at-least (h .faces) (eqb (h .faces) 1) (eqb (h .faces) 6) refl refl (p3 .0)
-
-  pub few-levels : h .levels ≤ maxLevels
-  unfolding withinLimits
-  few-levels =
-      let p0 = both-hold (between 1 maxSide (h .width)) _ limits in
-      let p1 = both-hold (between 1 maxSide (h .height)) _ (p0 .1) in
-      let p2 = both-hold (between 1 maxLevels (h .levels)) _ (p1 .1) in
-      leb-true _ _ (both-hold (leb 1 (h .levels)) _ (p2 .0) .1)
-
-  pub some-level : 0 < h .levels
-  unfolding withinLimits
-  some-level =
-      let p0 = both-hold (between 1 maxSide (h .width)) _ limits in
-      let p1 = both-hold (between 1 maxSide (h .height)) _ (p0 .1) in
-      let p2 = both-hold (between 1 maxLevels (h .levels)) _ (p1 .1) in
-      leb-true _ _ (both-hold (leb 1 (h .levels)) _ (p2 .0) .0)
-
   -- ---- how many bytes
 
   pub distance-so : (l : ℕ) → l < h .levels → {z : LevelSizes} → z ≡ levelSizes h l → z .distance ≡ surface (pictureOf h) l
@@ -77,11 +41,11 @@ module _ (h : Header) (limits : withinLimits h ≡ true) where
   chain-few (suc n) = omega (arith, chain-next (pictureOf h) n, chain-few n, surface-few n)
 
   pub sum-small : (l : ℕ) → l < h .levels → chainTo (pictureOf h) l + surface (pictureOf h) l ≤ 16777216 * 14
-  sum-small l number = omega (arith, chain-few l, surface-few l, few-levels)
+  sum-small l number = omega (arith, chain-few l, surface-few l, limited h limits .levels)
 
   pub faces-small : {n : ℕ} → n ≡ chain (pictureOf h) → h .faces * n ≤ 6 * (16777216 * 13)
   faces-small e =
-      mul-le-mul {m₂ = 16777216 * 13} (limited h limits .faces) (omega (arith, e, chain-few (h .levels), few-levels))
+      mul-le-mul {m₂ = 16777216 * 13} (limited h limits .faces) (omega (arith, e, chain-few (h .levels), limited h limits .levels))
 
   -- ---- where
 
@@ -93,7 +57,7 @@ module _ (h : Header) (limits : withinLimits h ≡ true) where
   in-whole : (l head : ℕ) → l < h .levels
       → head + chainTo (pictureOf h) l + surface (pictureOf h) l ≤ head + h .faces * chain (pictureOf h)
   in-whole l head number =
-      omega (arith, chain-before (pictureOf h) l (h .levels) number, one-of (h .faces) (chain (pictureOf h)) some-face)
+      omega (arith, chain-before (pictureOf h) l (h .levels) number, one-of (h .faces) (chain (pictureOf h)) (limited h limits .face))
 
   -- so there is room for one
   pub room-for : (head n : ℕ) {c from l : ℕ} → c ≡ chain (pictureOf h) → head + h .faces * c ≤ n

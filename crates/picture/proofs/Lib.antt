@@ -1,7 +1,6 @@
 pub mod Words
 pub mod Setting
 pub mod Out
-pub mod Carried
 pub mod Chains
 pub mod Bytes
 pub mod Refusals

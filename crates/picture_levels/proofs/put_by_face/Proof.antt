@@ -12,6 +12,7 @@ use Rattle.crn_format.specs.Opening.{Palettes}
 use Rattle.crn_format.specs.declared.Header.{Header}
 use Rattle.crn_format.specs.declared.Tables.{Tables}
 use Rattle.crn_formats.specs.Lent.{lentOf}
+use Rattle.crn_formats.proofs.Limited.{limited}
 use Rattle.crn_decoders.specs.declared.decoders.Sizes.{Sizes}
 use Rattle.crn_drawing.specs.Levels.{recordWith, Made}
 use Rattle.crn_drawing.specs.declared.Unpacked.{Unpacked}
@@ -20,7 +21,7 @@ use Rattle.crn_levels.proofs.Steps.{rest-whole, put-whole}
 use Rattle.picture.specs.Surfaces.{pictureOf, surface, chainTo, byFace}
 use Rattle.picture.specs.Writing.{nothing, putFrom}
 use Rattle.picture.proofs.Chains.{chain-none}
-use Rattle.picture.proofs.Bytes.{distance-so, few-levels, room-for, chain-after}
+use Rattle.picture.proofs.Bytes.{distance-so, room-for, chain-after}
 use Rattle.picture_levels.specs.Puts.{refusedBy}
 use Rattle.picture_levels.proofs.Steps.{on, off, few-cuts, all-in, not-in, none-left}
 use Rattle.picture_levels.proofs.put_by_face.Statement.{statement}
@@ -68,7 +69,7 @@ here c =
           room-for (s .args .h) within (s .args .head) (length (l .dst)) (s .pre .1 .0) (omega (arith, s .pre .1 .1, l .inv .long)) (l .inv .place)
           number;
       few = symbols-few (s .args .h) (l .level) within (lt-ltb _ _ number) (c .before .level-sizes .ensures);
-      levels = few-levels (s .args .h) within;
+      levels = limited (s .args .h) within .levels;
     }
 
 loop-holds : tie.Need-loop-holds Inv-loop μ-loop

@@ -2,7 +2,8 @@
 use mathlib.Core.Path.{_≡_, ap, _∙_}
 use native.Mathlib.Omega.{arith}
 use Rattle.picture.specs.Surfaces.{pictureOf, surface}
-use Rattle.picture.proofs.Bytes.{distance-so, surface-few, some-level}
+use Rattle.crn_formats.proofs.Limited.{limited}
+use Rattle.picture.proofs.Bytes.{distance-so, surface-few}
 use Rattle.dds.proofs.Fields.{in-two}
 use borrow.Author.Needs.{needs}
 use Rattle.dds.proofs.header.put_header.Statement.{statement}
@@ -11,7 +12,7 @@ use Rattle.dds.proofs.header.put_header.Tie as tie
 linear : (c : tie.After-level-sizes) → c .level-sizes .result .distance ≡ surface (pictureOf (c .before .before .args .h)) 0
 linear c =
     let s = c .before .before in
-    distance-so (s .args .h) (s .pre .0) 0 (some-level (s .args .h) (s .pre .0)) (c .level-sizes .ensures)
+    distance-so (s .args .h) (s .pre .0) 0 (limited (s .args .h) (s .pre .0) .level) (c .level-sizes .ensures)
 
 level-sizes-requires : tie.Need-level-sizes-requires
 level-sizes-requires c κs = search needs

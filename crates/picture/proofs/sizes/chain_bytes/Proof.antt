@@ -5,8 +5,8 @@ use native.Mathlib.Omega.{arith}
 use borrow.Author.Needs.{needs}
 use Rattle.picture.specs.Surfaces.{pictureOf, chainTo}
 use Rattle.picture.proofs.Chains.{chain-none}
-use Rattle.picture.proofs.Bytes.{distance-so, few-levels, chain-after}
-use Rattle.picture.proofs.Bytes.{sum-small}
+use Rattle.crn_formats.proofs.Limited.{limited}
+use Rattle.picture.proofs.Bytes.{distance-so, chain-after, sum-small}
 use Rattle.picture.proofs.sizes.chain_bytes.Statement.{statement}
 use Rattle.picture.proofs.sizes.chain_bytes.Tie as tie
 
@@ -26,7 +26,7 @@ add-sum : tie.Need-add-sum Inv-loop μ-loop
 add-sum c = omega (arith, distance-so (c .before .before .before .before .before .args .h) (c .before .before .before .before .before .pre) (c .before .before .before .before .loop .level) (omega (arith, c .before .before .if1 .taken)) (c .before .level-sizes .ensures), sum-small (c .before .before .before .before .before .args .h) (c .before .before .before .before .before .pre) (c .before .before .before .before .loop .level) (omega (arith, c .before .before .if1 .taken)), c .before .before .before .before .loop .inv .1)
 
 add-level : tie.Need-add-level Inv-loop μ-loop
-add-level c = omega (arith, c .before .before .if1 .taken, few-levels (c .before .before .before .before .before .args .h) (c .before .before .before .before .before .pre))
+add-level c = omega (arith, c .before .before .if1 .taken, limited (c .before .before .before .before .before .args .h) (c .before .before .before .before .before .pre) .levels)
 
 loop-less : tie.Need-loop-less Inv-loop μ-loop
 loop-less c = omega (arith, c .before .before .if1 .taken)
