@@ -3,7 +3,7 @@
 
 - OUT/CODES-FORMAT-ENTRIES-N.crn, for bench/opens.rs: every palette has ENTRIES entries; one level is there for the code tables that it needs. CODES is `any` for
   the generator's codes, whose lengths have nothing to do with how often a symbol comes, and `fitted` for Huffman's, as an encoder makes them.
-- OUT/level-FORMAT-SIDE.crn, for bench/table.rs and bench/dds.rs: square, with all its levels; deltas are mostly small, and codes are fitted.
+- OUT/level-FORMAT-SIDE.crn, for bench/table.rs and bench/dds.rs: square, all levels; deltas are mostly small, and codes are fitted.
 - OUT/cube-FORMAT-SIDE.crn, for bench/dds.rs: the same with six faces.
 - OUT/small-NNN.crn, for bench/table.rs: a thousand like these, the formats by turns, of 4 to 64 pixels a side and 10 to 60 entries a palette."""
 import collections

@@ -1,5 +1,5 @@
-// The public entry (the Rust's crunch.rs): a file opened, and a level unpacked, with the record whole or by its parts; all its levels in one
-// call; and all of them as a DDS file. None asks anything of its caller.
+// The public entry (the Rust's crunch.rs): a file opened, and a level unpacked, with the record whole or by its parts; all its levels in
+// one call; and all of them as a DDS file. None asks anything of its caller.
 mod whole; // the record whole
 
 pub use crn_level::Unpacked;

@@ -35,7 +35,12 @@ pub extern "C" fn crunch_write_dds_parts<'a>(
     alpha_selectors: &[u16],
     dst: &mut [u8],
 ) -> Written
-    ensures { λ r. ⌜ Writes (writing ddsOf (recordBy header counts (now (chunk .entry)) (now («color_ends» .entry)) (now («color_sels» .entry)) (now («alpha_ends» .entry)) (now («alpha_sels» .entry))) (now (file .entry)) (lentOf (now («color_endpoints» .entry)) (now («color_selectors» .entry)) (now («alpha_endpoints» .entry)) (now («alpha_selectors» .entry))) (now (dst .entry))) (now (dst .exit)) r ⌝ }
+    ensures { λ r. ⌜ Writes (writing ddsOf
+        (recordBy header counts (now (chunk .entry)) (now («color_ends» .entry)) (now («color_sels» .entry)) (now («alpha_ends» .entry))
+        (now («alpha_sels» .entry))) (now (file .entry))
+        (lentOf (now («color_endpoints» .entry)) (now («color_selectors» .entry)) (now («alpha_endpoints» .entry))
+        (now («alpha_selectors» .entry))) (now (dst .entry)))
+        (now (dst .exit)) r ⌝ }
 {
     crunch::write_dds(
         header,

@@ -67,8 +67,8 @@ fn none(refusal: u32) -> Written
     }
 }
 
-// A record, which comes by its parts, written as a DDS file. "2 and 6 on the record first, then 16 any other format, then 12, all before any byte
-// is written; a level's later refusal zeroes the whole output region."
+// A record, which comes by its parts, written as a DDS file. "2 and 6 on the record first, then 16 any other format, then 12, all before any
+// byte is written; a level's later refusal zeroes the whole output region."
 pub fn write_dds<'a>(
     header: Header,
     counts: Counts,
@@ -84,7 +84,12 @@ pub fn write_dds<'a>(
     alpha_selectors: &[u16],
     dst: &mut [u8],
 ) -> Written
-    ensures { λ r. ⌜ Writes (writing ddsOf (recordBy header counts (now (chunk .entry)) (now («color_ends» .entry)) (now («color_sels» .entry)) (now («alpha_ends» .entry)) (now («alpha_sels» .entry))) (now (file .entry)) (lentOf (now («color_endpoints» .entry)) (now («color_selectors» .entry)) (now («alpha_endpoints» .entry)) (now («alpha_selectors» .entry))) (now (dst .entry))) (now (dst .exit)) r ⌝ }
+    ensures { λ r. ⌜ Writes (writing ddsOf
+        (recordBy header counts (now (chunk .entry)) (now («color_ends» .entry)) (now («color_sels» .entry)) (now («alpha_ends» .entry))
+        (now («alpha_sels» .entry))) (now (file .entry))
+        (lentOf (now («color_endpoints» .entry)) (now («color_selectors» .entry)) (now («alpha_endpoints» .entry))
+        (now («alpha_selectors» .entry))) (now (dst .entry)))
+        (now (dst .exit)) r ⌝ }
 {
     if !within_limits(header) {
         return none(2);

@@ -14,7 +14,8 @@ use Rattle.picture.proofs.Words.{words-long}
 words-append : (us vs : List ℕ) → wordsOf (us ++ vs) ≡ wordsOf us ++ wordsOf vs
 unfolding wordsOf
 words-append [] vs = refl
-words-append (u ∷ us) vs = ap (λ (l : List ℕ). little 4 u ++ l) (words-append us vs) ∙ sym (append-assoc (little 4 u) (wordsOf us) (wordsOf vs))
+words-append (u ∷ us) vs = ap (λ (l : List ℕ). little 4 u ++ l) (words-append us vs) ∙ sym (append-assoc (little 4 u) (wordsOf us)
+    (wordsOf vs))
 
 pub one-word : (d ws : List ℕ) (at i : ℕ) → i < length ws
     → sets (sets d at (wordsOf (take i ws))) (at + 4 * i) (little 4 (getD ws i 0)) ≡ sets d at (wordsOf (take (i + 1) ws))

@@ -16,8 +16,8 @@ pub struct Picture {
     pub faces: u32,
 }
 
-// How a writing ended: refusal 0 with the bytes written and the symbols and cut-outs of all levels; or the refusal, the level and the bit that it
-// names, and the symbols drawn.
+// How a writing ended: refusal 0 with the bytes written and the symbols and cut-outs of all levels; or the refusal, the level and the bit
+// that it names, and the symbols drawn.
 #[repr(C)]
 pub struct Written {
     pub refusal: u32,

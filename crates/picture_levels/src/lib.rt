@@ -27,7 +27,8 @@ use crn_grid::rows_of;
 use crn_level::unpack_made;
 use crn_sizes::level_sizes;
 
-// The symbols and cut-outs of all levels; or the refusal of a level, with its number, the bit that it names, and the symbols drawn until then.
+// The symbols and cut-outs of all levels; or the refusal of a level, with its number, the bit that it names, and the symbols drawn until
+// then.
 pub enum LevelsPut {
     Through {
         symbols: u64,
@@ -92,8 +93,13 @@ fn put_by_face(
     step: usize,
     dst: &mut [u8],
 ) -> LevelsPut
-    requires { ⌜ Tabled h s (now lookup) (now sorted) ⌝ ∗ ⌜ step ≡ «chainOf» (pictureOf h) ⌝ ∗ ⌜ head + h .faces * step ≤ length (now dst) ⌝ }
-    ensures { λ r. ⌜ ((t : Tables) → Made (recordWith h t) s (now (lookup .entry)) (now (sorted .entry)) → Puts (putFrom (h .levels) (byFace head (pictureOf h)) (recordWith h t) (now (file .entry)) (lentOf (now («color_endpoints» .entry)) (now («color_selectors» .entry)) (now («alpha_endpoints» .entry)) (now («alpha_selectors» .entry))) 0 nothing (now (dst .entry))) (now (dst .entry)) (now (dst .exit)) r) ⌝ }
+    requires { ⌜ Tabled h s (now lookup) (now sorted) ⌝
+        ∗ ⌜ step ≡ «chainOf» (pictureOf h) ⌝ ∗ ⌜ head + h .faces * step ≤ length (now dst) ⌝ }
+    ensures { λ r. ⌜ ((t : Tables) → Made (recordWith h t) s (now (lookup .entry)) (now (sorted .entry))
+        → Puts (putFrom (h .levels) (byFace head (pictureOf h)) (recordWith h t) (now (file .entry))
+        (lentOf (now («color_endpoints» .entry)) (now («color_selectors» .entry)) (now («alpha_endpoints» .entry))
+        (now («alpha_selectors» .entry))) 0 nothing (now (dst .entry)))
+        (now (dst .entry)) (now (dst .exit)) r) ⌝ }
 {
     let mut level = 0;
     let mut from = head;
@@ -158,10 +164,17 @@ fn put_in<'a>(
     chain: usize,
     dst: &mut [u8],
 ) -> LevelsPut
-    requires { ⌜ withinLimits h ≡ true ⌝ ∗ ⌜ tablesHold (tablesBy counts (now chunk) (now «color_ends») (now «color_sels») (now «alpha_ends») (now «alpha_sels»)) ≡ true ⌝ }
-    requires { ⌜ AllFair counts (now chunk) (now «color_ends») (now «color_sels») (now «alpha_ends») (now «alpha_sels») (s .«sorted_step») ⌝ ∗ ⌜ Able s (length (now lookup)) (length (now sorted)) ⌝ }
+    requires { ⌜ withinLimits h ≡ true ⌝
+        ∗ ⌜ tablesHold (tablesBy counts (now chunk) (now «color_ends») (now «color_sels») (now «alpha_ends») (now «alpha_sels»)) ≡ true ⌝ }
+    requires { ⌜ AllFair counts (now chunk) (now «color_ends») (now «color_sels») (now «alpha_ends») (now «alpha_sels») (s .«sorted_step») ⌝
+        ∗ ⌜ Able s (length (now lookup)) (length (now sorted)) ⌝ }
     requires { ⌜ chain ≡ «chainOf» (pictureOf h) ⌝ ∗ ⌜ head + h .faces * chain ≤ length (now dst) ⌝ }
-    ensures { λ r. ⌜ Puts (putFrom (h .levels) (byFace head (pictureOf h)) (recordBy h counts (now (chunk .entry)) (now («color_ends» .entry)) (now («color_sels» .entry)) (now («alpha_ends» .entry)) (now («alpha_sels» .entry))) (now (file .entry)) (lentOf (now («color_endpoints» .entry)) (now («color_selectors» .entry)) (now («alpha_endpoints» .entry)) (now («alpha_selectors» .entry))) 0 nothing (now (dst .entry))) (now (dst .entry)) (now (dst .exit)) r ⌝ }
+    ensures { λ r. ⌜ Puts (putFrom (h .levels) (byFace head (pictureOf h))
+        (recordBy h counts (now (chunk .entry)) (now («color_ends» .entry)) (now («color_sels» .entry)) (now («alpha_ends» .entry))
+        (now («alpha_sels» .entry))) (now (file .entry))
+        (lentOf (now («color_endpoints» .entry)) (now («color_selectors» .entry)) (now («alpha_endpoints» .entry))
+        (now («alpha_selectors» .entry))) 0 nothing (now (dst .entry)))
+        (now (dst .entry)) (now (dst .exit)) r ⌝ }
 {
     make_tables(
         has_color(h.format),
@@ -210,9 +223,15 @@ pub fn put_levels<'a>(
     chain: usize,
     dst: &mut [u8],
 ) -> LevelsPut
-    requires { ⌜ withinLimits h ≡ true ⌝ ∗ ⌜ tablesHold (tablesBy counts (now chunk) (now «color_ends») (now «color_sels») (now «alpha_ends») (now «alpha_sels»)) ≡ true ⌝ }
+    requires { ⌜ withinLimits h ≡ true ⌝
+        ∗ ⌜ tablesHold (tablesBy counts (now chunk) (now «color_ends») (now «color_sels») (now «alpha_ends») (now «alpha_sels»)) ≡ true ⌝ }
     requires { ⌜ chain ≡ «chainOf» (pictureOf h) ⌝ ∗ ⌜ head + h .faces * chain ≤ length (now dst) ⌝ }
-    ensures { λ r. ⌜ Puts (putFrom (h .levels) (byFace head (pictureOf h)) (recordBy h counts (now (chunk .entry)) (now («color_ends» .entry)) (now («color_sels» .entry)) (now («alpha_ends» .entry)) (now («alpha_sels» .entry))) (now (file .entry)) (lentOf (now («color_endpoints» .entry)) (now («color_selectors» .entry)) (now («alpha_endpoints» .entry)) (now («alpha_selectors» .entry))) 0 nothing (now (dst .entry))) (now (dst .entry)) (now (dst .exit)) r ⌝ }
+    ensures { λ r. ⌜ Puts (putFrom (h .levels) (byFace head (pictureOf h))
+        (recordBy h counts (now (chunk .entry)) (now («color_ends» .entry)) (now («color_sels» .entry)) (now («alpha_ends» .entry))
+        (now («alpha_sels» .entry))) (now (file .entry))
+        (lentOf (now («color_endpoints» .entry)) (now («color_selectors» .entry)) (now («alpha_endpoints» .entry))
+        (now («alpha_selectors» .entry))) 0 nothing (now (dst .entry)))
+        (now (dst .entry)) (now (dst .exit)) r ⌝ }
 {
     let s = sizes_for(counts, columns_of(h, 0), rows_of(h, 0));
     if s.sorted_step <= 1024 {

@@ -28,7 +28,8 @@ goes-out-requires c κs = search needs
 
 returns-2 : tie.Need-returns-2
 returns-2 c =
-    needed-16 ddsOf (c .before .before .before .before .args .header) (within (c .before .before)) (sym (c .before .goes-out .ensures) ∙ not-true _ (c .if2 .taken))
+    needed-16 ddsOf (c .before .before .before .before .args .header) (within (c .before .before)) (sym (c .before .goes-out .ensures)
+    ∙ not-true _ (c .if2 .taken))
 
 chain-bytes-requires : tie.Need-chain-bytes-requires
 chain-bytes-requires c κs = within (c .before .before)

@@ -35,7 +35,8 @@ record Going (h : Header) (s : Sizes) (lookup sorted file : List ℕ) (p : Palet
   drawn : symbols ≤ mostSymbols * level
   cut : cutouts ≤ mostCutouts * level
   goes : (t : Tables) → Made (recordWith h t) s lookup sorted
-      → putFrom (h .levels - level) (byFace head (pictureOf h)) (recordWith h t) file p level (record { symbols = symbols; cutouts = cutouts }) dst
+      → putFrom (h .levels - level) (byFace head (pictureOf h)) (recordWith h t) file p level
+      (record { symbols = symbols; cutouts = cutouts }) dst
       ≡ putFrom (h .levels) (byFace head (pictureOf h)) (recordWith h t) file p 0 nothing dst₀
 
 abbrev Inv-loop : tie.InvT-loop
@@ -56,7 +57,9 @@ record Here (h : Header) (from distance symbols level n : ℕ) : Type 0 where
   levels : h .levels ≤ 13
 
 here : (c : tie.After-budget Inv-loop μ-loop)
-    → Here (c .before .before .before .before .before .before .before .before .before .before .before .before .before .args .h) (c .before .before .before .before .loop .from) (c .before .level-sizes .result .distance) (c .before .level-sizes .result .symbols) (c .before .before .before .before .loop .level) (length (c .before .before .before .before .loop .dst))
+    → Here (c .before .before .before .before .before .before .before .before .before .before .before .before .before .args .h) (c .before
+    .before .before .before .loop .from) (c .before .level-sizes .result .distance) (c .before .level-sizes .result .symbols)
+    (c .before .before .before .before .loop .level) (length (c .before .before .before .before .loop .dst))
 here c =
     let s = c .before .before .before .before .before .before .before .before .before .before .before .before .before in
     let l = c .before .before .before .before .loop in
@@ -66,7 +69,8 @@ here c =
       number = number;
       bytes = distance-so (s .args .h) within (l .level) number (c .before .level-sizes .ensures);
       room =
-          room-for (s .args .h) within (s .args .head) (length (l .dst)) (s .pre .1 .0) (omega (arith, s .pre .1 .1, l .inv .long)) (l .inv .place)
+          room-for (s .args .h) within (s .args .head) (length (l .dst)) (s .pre .1 .0) (omega (arith, s .pre .1 .1, l .inv .long))
+          (l .inv .place)
           number;
       few = symbols-few (s .args .h) (l .level) within (lt-ltb _ _ number) (c .before .level-sizes .ensures);
       levels = limited (s .args .h) within .levels;
@@ -83,7 +87,8 @@ loop-holds c =
       cut = omega arith;
       goes = λ t m.
           ap (λ (n : ℕ). putFrom n (byFace (s .args .head) (pictureOf (s .args .h))) (recordWith (s .args .h) t) (s .args .file .now)
-          (lentOf (s .args .color-endpoints .now) (s .args .color-selectors .now) (s .args .alpha-endpoints .now) (s .args .alpha-selectors .now))
+          (lentOf (s .args .color-endpoints .now) (s .args .color-selectors .now) (s .args .alpha-endpoints .now)
+          (s .args .alpha-selectors .now))
           0 nothing (s .args .dst .now)) (sub-zero (s .args .h .levels));
     }
 
@@ -100,13 +105,16 @@ part-unpack-made-end : tie.Need-part-unpack-made-end Inv-loop μ-loop
 part-unpack-made-end c = omega (arith, here c .room)
 
 unpack-made-requires : tie.Need-unpack-made-requires Inv-loop μ-loop
-unpack-made-requires c κs = c .before .before .before .before .before .before .before .before .before .before .before .before .before .before .pre .0
+unpack-made-requires c κs = c .before .before .before .before .before .before .before .before .before .before .before .before .before
+    .before .pre .0
 
 -- the symbols drawn are taken off the allowance
 spent : (c : tie.After-struct-known2 Inv-loop μ-loop)
-    → c .before .before .before .unpack-made .last .1 .1 .1 .1 .1 .1 .1 .1 .1 .1 .1 .1 .0 ≤ c .before .before .before .before .before .before .level-sizes .result .symbols
+    → c .before .before .before .unpack-made .last .1 .1 .1 .1 .1 .1 .1 .1 .1 .1 .1 .1 .0 ≤ c .before .before .before .before .before
+    .before .level-sizes .result .symbols
 spent c =
-    let s = c .before .before .before .before .before .before .before .before .before .before .before .before .before .before .before .before .before .before in
+    let s = c .before .before .before .before .before .before .before .before .before .before .before .before .before .before .before
+    .before .before .before in
     omega (arith, c .before .before .before .unpack-made .ensures (s .pre .0 .of) (s .pre .0 .made) .spent)
 
 sub-symbols : tie.Need-sub-symbols Inv-loop μ-loop
@@ -115,15 +123,27 @@ sub-symbols c = omega (arith, spent c)
 add-symbols : tie.Need-add-symbols Inv-loop μ-loop
 add-symbols c =
     let w = here (c .before .before .before .before .before) in
-    omega (arith, spent c, c .before .before .before .before .before .before .before .before .before .loop .inv .drawn, w .few, w .levels, w .number)
+    omega (
+      arith,
+      spent c,
+      c .before .before .before .before .before .before .before .before
+          .before .loop .inv .drawn,
+      w .few,
+      w .levels,
+      w .number,
+    )
 
 -- with the level in its place the output is as long as before
 kept : (c : tie.After-struct-known2 Inv-loop μ-loop)
-    → length (putMid (c .before .before .before .before .before .before .before .before .before .loop .from) (length (c .before .before .before .before .before .before .before .before .before .loop .dst) - c .before .before .before .before .before .before .before .before .before .loop .from) (c .before .before .before .before .before .before .before .before .before .loop .dst)
-    (c .before .before .before .unpack-made .last .1 .1 .1 .1 .1 .1 .1 .1 .1 .1 .1 .1 .1 .0)) ≡ length (c .before .before .before .before .before .before .before .before .before .before .before .before .before .before .before .before .before .before .args .dst .now)
+    → length (putMid (c .before .before .before .before .before .before .before .before .before .loop .from) (length (c .before .before
+    .before .before .before .before .before .before .before .loop .dst) - c .before .before .before .before .before .before .before
+    .before .before .loop .from) (c .before .before .before .before .before .before .before .before .before .loop .dst)
+    (c .before .before .before .unpack-made .last .1 .1 .1 .1 .1 .1 .1 .1 .1 .1 .1 .1 .1 .0)) ≡ length (c .before .before .before .before
+    .before .before .before .before .before .before .before .before .before .before .before .before .before .before .args .dst .now)
 kept c =
     let l = c .before .before .before .before .before .before .before .before .before .loop in
-    same-len-mid (l .from) (length (l .dst) - l .from) (l .dst) (c .before .before .before .unpack-made .last .1 .1 .1 .1 .1 .1 .1 .1 .1 .1 .1 .1 .1 .0)
+    same-len-mid (l .from) (length (l .dst) - l .from) (l .dst) (c .before .before .before .unpack-made .last .1 .1 .1 .1 .1 .1 .1 .1 .1
+    .1 .1 .1 .1 .0)
     (c .before .before .before .unpack-made .kept .1 .1 .1 .1 .1 .1 .1 .1 .1 .1 .1 .1 .1 .0) ∙ l .inv .long
 
 enum-known-u : tie.Need-enum-known-u Inv-loop μ-loop
@@ -143,16 +163,27 @@ same-length c = c .before .before .before .clear .kept .0 ∙ kept (c .before .b
 
 returns : tie.Need-returns Inv-loop μ-loop
 returns c =
-    let s = c .before .before .before .before .before .before .before .before .before .before .before .before .before .before .before .before .before .before .before .before .before .before .before .before .before in
-    let l = c .before .before .before .before .before .before .before .before .before .before .before .before .before .before .before .before .loop in
+    let s = c .before .before .before .before .before .before .before .before .before .before .before .before .before .before .before
+    .before .before .before .before .before .before .before .before .before .before in
+    let l = c .before .before .before .before .before .before .before .before .before .before .before .before .before .before .before
+    .before .loop in
     λ t m.
     not-in (s .args .dst .now) (putMid (l .from) (length (l .dst) - l .from) (l .dst)
-    (c .before .before .before .before .before .before .before .before .before .before .unpack-made .last .1 .1 .1 .1 .1 .1 .1 .1 .1 .1 .1 .1 .1 .0))
-    (c .refused .ensures ∙ ap (λ (u : Unpacked). refusedBy u (l .level) (l .symbols + (c .before .before .before .before .before .before .before .before .before .before .before .before .before .level-sizes .result .symbols
-    - c .before .before .before .before .before .before .before .before .before .before .unpack-made .last .1 .1 .1 .1 .1 .1 .1 .1 .1 .1 .1 .1 .0))) (c .before .before .before .before .before .enum-told .given .1))
+    (c .before .before .before .before .before .before .before .before .before .before .unpack-made .last .1 .1 .1 .1 .1 .1 .1 .1 .1 .1 .1
+    .1 .1 .0))
+    (c .refused .ensures ∙ ap (λ (u : Unpacked). refusedBy u (l .level) (l .symbols + (c .before .before .before .before .before .before
+    .before .before .before .before .before .before .before .level-sizes .result .symbols
+    - c .before .before .before .before .before .before .before .before .before .before .unpack-made .last .1 .1 .1 .1 .1 .1 .1 .1 .1 .1
+    .1 .1 .0))) (c .before .before .before .before .before .enum-told .given .1))
     (sym (off (byFace (s .args .head) (pictureOf (s .args .h))) (recordWith (s .args .h) t) _ _ (l .level) _ (l .dst)
-    (s .args .h .levels - (l .level + 1)) (omega (arith, c .before .before .before .before .before .before .before .before .before .before .before .before .before .before .if1 .taken)) (c .before .before .before .before .before .before .before .before .before .before .before .before .before .level-sizes .ensures) (l .inv .place)
-    (rest-whole (l .from) (l .dst)) (s .pre .1 .0) (rw (c .before .before .before .before .before .enum-told .given .1) at (c .before .before .before .before .before .before .before .before .before .before .unpack-made .ensures t m))) ∙ l .inv .goes t m)
+    (s .args .h .levels - (l .level + 1)) (omega (
+      arith,
+      c .before .before .before .before .before .before .before .before .before .before
+          .before .before .before .before .if1 .taken,
+    )) (c .before .before .before .before .before .before .before .before .before .before
+    .before .before .before .level-sizes .ensures) (l .inv .place)
+    (rest-whole (l .from) (l .dst)) (s .pre .1 .0) (rw (c .before .before .before .before .before .enum-told .given .1) at (c .before
+    .before .before .before .before .before .before .before .before .before .unpack-made .ensures t m))) ∙ l .inv .goes t m)
     (c .before .before .before .clear .ensures) (kept (c .before .before .before .before .before .before .before))
 
 add-level : tie.Need-add-level Inv-loop μ-loop
@@ -161,26 +192,45 @@ add-level c = let w = here (c .before .before .before .before .before .before .b
 add-from : tie.Need-add-from Inv-loop μ-loop
 add-from c =
     let w = here (c .before .before .before .before .before .before .before .before .before) in
-    omega (arith, c .before .before .before .before .before .before .before .before .before .before .before .before .before .before .before .before .before .before .before .before .before .before .good .1 .1 .1 .1 .1 .1 .1 .1 .1 .1 .1 .0 .0, w .room, w .bytes, c .before .before .before .before .before .before .before .before .before .before .before .before .before .loop .inv .long)
+    omega (
+      arith,
+      c .before .before .before .before .before .before .before .before .before .before .before .before .before .before
+          .before .before .before .before .before .before .before .before .good .1 .1 .1 .1 .1 .1 .1 .1 .1 .1
+          .1 .0 .0,
+      w .room,
+      w .bytes,
+      c .before .before .before .before .before .before .before .before .before .before .before .before
+          .before .loop .inv .long,
+    )
 
 -- a level that went through has few cut-outs
 few : (c : tie.After-struct-known3 Inv-loop μ-loop) → c .before .before .u .given .0 .1 .0 ≤ mostCutouts
 few c =
-    let s = c .before .before .before .before .before .before .before .before .before .before .before .before .before .before .before .before .before .before .before .before .before .before in
+    let s = c .before .before .before .before .before .before .before .before .before .before .before .before .before .before .before
+    .before .before .before .before .before .before .before in
     few-cuts (recordWith (s .args .h) (s .pre .0 .of)) _ _ _ _ _ _ _
-    (rw (c .before .before .u .given .1) at (c .before .before .before .before .before .before .before .unpack-made .ensures (s .pre .0 .of) (s .pre .0 .made)))
+    (rw (c .before .before .u .given .1) at (c .before .before .before .before .before .before .before .unpack-made .ensures
+    (s .pre .0 .of) (s .pre .0 .made)))
 
 add-cutouts : tie.Need-add-cutouts Inv-loop μ-loop
 add-cutouts c =
     let w = here (c .before .before .before .before .before .before .before .before .before) in
-    omega (arith, few c, c .before .before .before .before .before .before .before .before .before .before .before .before .before .loop .inv .cut, w .number, w .levels)
+    omega (
+      arith,
+      few c,
+      c .before .before .before .before .before .before .before .before .before .before .before .before
+          .before .loop .inv .cut,
+      w .number,
+      w .levels,
+    )
 
 loop-less : tie.Need-loop-less Inv-loop μ-loop
 loop-less c = omega (arith, c .before .before .before .before .before .before .before .before .before .before .before .if1 .taken)
 
 loop-again : tie.Need-loop-again Inv-loop μ-loop
 loop-again c =
-    let s = c .before .before .before .before .before .before .before .before .before .before .before .before .before .before .before .before .before .before .before .before .before .before in
+    let s = c .before .before .before .before .before .before .before .before .before .before .before .before .before .before .before
+    .before .before .before .before .before .before .before in
     let l = c .before .before .before .before .before .before .before .before .before .before .before .before .before .loop in
     let w = here (c .before .before .before .before .before .before .before .before .before) in
     record {
@@ -191,9 +241,11 @@ loop-again c =
       cut = omega (arith, l .inv .cut, few c);
       goes = λ t m.
           sym (on (byFace (s .args .head) (pictureOf (s .args .h))) (recordWith (s .args .h) t) _ _ (l .level) _ (l .dst)
-          (s .args .h .levels - (l .level + 1)) (omega (arith, w .number)) (c .before .before .before .before .before .before .before .before .before .before .level-sizes .ensures) (l .inv .place)
+          (s .args .h .levels - (l .level + 1)) (omega (arith, w .number)) (c .before .before .before .before .before .before .before
+          .before .before .before .level-sizes .ensures) (l .inv .place)
           (rest-whole (l .from) (l .dst)) (s .pre .1 .0) (put-whole (l .from) (l .dst) _)
-          (rw (c .before .before .u .given .1) at (c .before .before .before .before .before .before .before .unpack-made .ensures t m))) ∙ l .inv .goes t m;
+          (rw (c .before .before .u .given .1) at (c .before .before .before .before .before .before .before .unpack-made .ensures t m)))
+          ∙ l .inv .goes t m;
     }
 
 same-length-2 : tie.Need-same-length-2 Inv-loop μ-loop
@@ -204,7 +256,8 @@ returns-2 c =
     let s = c .before .before .before .before .before .before .before .before .before .before .before in
     let l = c .before .before .loop in
     λ t m.
-    all-in (s .args .dst .now) (sym (none-left (byFace (s .args .head) (pictureOf (s .args .h))) (recordWith (s .args .h) t) _ _ (l .level) _ (l .dst)
+    all-in (s .args .dst .now) (sym (none-left (byFace (s .args .head) (pictureOf (s .args .h))) (recordWith (s .args .h) t) _ _
+    (l .level) _ (l .dst)
     (omega (arith, c .if1 .left))) ∙ l .inv .goes t m)
 
 pub put-by-face-spec : {M : Type 1} → statement M

@@ -16,17 +16,21 @@ whole s =
     (s .args .«alpha-ends» .now) (s .args .«alpha-sels» .now)
 
 made : (c : tie.After-make-tables)
-    → Made (whole (c .before .before .before .before .before .before .before .before .before .before .before .before .before .before .before .before .before .before)) (c .before .before .before .before .before .before .before .before .before .before .before .before .before .before .before .before .before .before .args .s) (c .make-tables .last .1 .1 .1 .1 .1 .1 .1 .1 .1 .0)
+    → Made (whole (c .before .before .before .before .before .before .before .before .before .before .before .before .before .before
+    .before .before .before .before)) (c .before .before .before .before .before .before .before .before .before .before .before
+    .before .before .before .before .before .before .before .args .s) (c .make-tables .last .1 .1 .1 .1 .1 .1 .1 .1 .1 .0)
     (c .make-tables .last .1 .1 .1 .1 .1 .1 .1 .1 .1 .1 .0)
 made c =
-    let s = c .before .before .before .before .before .before .before .before .before .before .before .before .before .before .before .before .before .before in
+    let s = c .before .before .before .before .before .before .before .before .before .before .before .before .before .before .before
+    .before .before .before in
     record {
       within = s .pre .0;
       tables = s .pre .1 .0;
       able =
           able-kept (s .pre .1 .1 .1 .0) (c .make-tables .kept .1 .1 .1 .1 .1 .1 .1 .1 .1 .0)
           (c .make-tables .kept .1 .1 .1 .1 .1 .1 .1 .1 .1 .1 .0);
-      coded = ready-by (whole s) (c .before .before .before .before .has-color .ensures) (c .before .before .before .has-alpha .ensures) refl (c .make-tables .ensures);
+      coded = ready-by (whole s) (c .before .before .before .before .has-color .ensures) (c .before .before
+          .before .has-alpha .ensures) refl (c .make-tables .ensures);
     }
 
 has-color-requires : tie.Need-has-color-requires
@@ -40,8 +44,15 @@ make-tables-requires c κs = search needs
 
 put-by-face-requires : tie.Need-put-by-face-requires
 put-by-face-requires c κs =
-    let s = c .before .before .before .before .before .before .before .before .before .before .before .before .before .before .before .before .before .before .before .before .before .before .before .before .before in
-    (record { of = whole s .tables; made = made (c .before .before .before .before .before .before .before) }, (s .pre .1 .1 .1 .1 .0, s .pre .1 .1 .1 .1 .1))
+    let s = c .before .before .before .before .before .before .before .before .before .before .before .before .before .before .before
+    .before .before .before .before .before .before .before .before .before .before in (
+      record { of = whole s .tables; made = made (c .before .before .before .before .before .before .before) },
+      (
+        s .pre .1 .1 .1
+            .1 .0,
+        s .pre .1 .1 .1 .1 .1,
+      ),
+    )
 
 same-length : tie.Need-same-length
 same-length c = search needs
@@ -53,7 +64,9 @@ same-length-3 : tie.Need-same-length-3
 same-length-3 c = search needs
 
 returns : tie.Need-returns
-returns c = c .before .before .put-by-face .ensures (whole (c .before .before .before .before .before .before .before .before .before .before .before .before .before .before .before .before .before .before .before .before .before .before .before .before .before .before .before .before) .tables) (made (c .before .before .before .before .before .before .before .before .before .before))
+returns c = c .before .before .put-by-face .ensures (whole (c .before .before .before .before .before .before .before .before .before
+    .before .before .before .before .before .before .before .before .before .before .before .before .before .before .before .before
+    .before .before .before) .tables) (made (c .before .before .before .before .before .before .before .before .before .before))
 
 pub put-in-spec : {M : Type 1} → statement M
 put-in-spec =

@@ -16,7 +16,8 @@ given s =
     recordBy (s .args .h) (s .args .counts) (s .args .chunk .now) (s .args .«color-ends» .now) (s .args .«color-sels» .now)
     (s .args .«alpha-ends» .now) (s .args .«alpha-sels» .now)
 
-chosen : (c : tie.After-sizes-for) → Sized (c .before .before .before .before .before .before .before .before .before .args .counts) (c .sizes-for .result)
+chosen : (c : tie.After-sizes-for) → Sized (c .before .before .before .before .before .before .before .before .before .args .counts)
+    (c .sizes-for .result)
 chosen c = sized _ _ _ (c .sizes-for .ensures)
 
 -- tables of these sizes hold every symbol
@@ -28,13 +29,16 @@ Fairly s z =
 fair : (s : tie.Start) {z : Sizes} → Long (given s .tables) → Sized (s .args .counts) z → Fairly s z
 fair s long z = all-fair (given s .tables) _ long (s .pre .1 .0) (z .room (at-most (given s .tables) (s .pre .1 .0)))
 
-long-1 : (c : tie.After-put-in-arg6) → Long (given (c .before .before .before .before .before .before .before .before .before .before .before .before .before .before .before .before .before .before .before .before .before) .tables)
+long-1 : (c : tie.After-put-in-arg6) → Long (given (c .before .before .before .before .before .before .before .before .before .before
+    .before .before .before .before .before .before .before .before .before .before .before) .tables)
 long-1 c = search needs
 
-long-2 : (c : tie.After-put-in-arg12) → Long (given (c .before .before .before .before .before .before .before .before .before .before .before .before .before .before .before .before .before .before .before .before .before) .tables)
+long-2 : (c : tie.After-put-in-arg12) → Long (given (c .before .before .before .before .before .before .before .before .before .before
+    .before .before .before .before .before .before .before .before .before .before .before) .tables)
 long-2 c = search needs
 
-long-3 : (c : tie.After-put-in-arg18) → Long (given (c .before .before .before .before .before .before .before .before .before .before .before .before .before .before .before .before .before .before .before) .tables)
+long-3 : (c : tie.After-put-in-arg18) → Long (given (c .before .before .before .before .before .before .before .before .before .before
+    .before .before .before .before .before .before .before .before .before) .tables)
 long-3 c = search needs
 
 columns-of-requires : tie.Need-columns-of-requires
@@ -54,9 +58,23 @@ slice-aggregate-put-in-2 c = search needs
 
 put-in-requires : tie.Need-put-in-requires
 put-in-requires c κs =
-    let s = c .before .before .before .before .before .before .before .before .before .before .before .before .before .before .before .before .before .before .before .before .before in
-    let z = chosen (c .before .before .before .before .before .before .before .before .before .before .before .before) in
-    (s .pre .0, (s .pre .1 .0, (fair s (long-1 c) z, (able-in 288 1024 z (c .before .before .before .before .before .before .before .before .if2 .taken) (c .before .before .before .before .before .before .before .before .before .before .if1 .taken), s .pre .1 .1))))
+    let s = c .before .before .before .before .before .before .before .before .before .before .before .before .before .before .before
+    .before .before .before .before .before .before in
+    let z = chosen (c .before .before .before .before .before .before .before .before .before .before .before .before) in (
+      s .pre .0,
+      (
+        s .pre .1 .0,
+        (
+          fair s (long-1 c) z,
+          (
+            able-in 288 1024 z (c .before .before .before .before .before .before .before
+                .before .if2 .taken) (c .before .before .before .before .before .before .before .before .before .before .if1 .taken),
+            s .pre .1
+                .1,
+          ),
+        ),
+      ),
+    )
 
 same-length : tie.Need-same-length
 same-length c = search needs
@@ -72,9 +90,23 @@ slice-aggregate-put-in-4 c = search needs
 
 put-in-requires-2 : tie.Need-put-in-requires-2
 put-in-requires-2 c κs =
-    let s = c .before .before .before .before .before .before .before .before .before .before .before .before .before .before .before .before .before .before .before .before .before in
-    let z = chosen (c .before .before .before .before .before .before .before .before .before .before .before .before) in
-    (s .pre .0, (s .pre .1 .0, (fair s (long-2 c) z, (able-in 2080 1024 z (z .fewer (c .before .before .before .before .before .before .before .before .before .before .if1 .taken)) (c .before .before .before .before .before .before .before .before .before .before .if1 .taken), s .pre .1 .1))))
+    let s = c .before .before .before .before .before .before .before .before .before .before .before .before .before .before .before
+    .before .before .before .before .before .before in
+    let z = chosen (c .before .before .before .before .before .before .before .before .before .before .before .before) in (
+      s .pre .0,
+      (
+        s .pre .1 .0,
+        (
+          fair s (long-2 c) z,
+          (
+            able-in 2080 1024 z (z .fewer (c .before .before .before .before .before .before
+                .before .before .before .before .if1 .taken)) (c .before .before .before .before .before .before .before .before .before
+                .before .if1 .taken),
+            s .pre .1 .1,
+          ),
+        ),
+      ),
+    )
 
 same-length-2 : tie.Need-same-length-2
 same-length-2 c = search needs
@@ -90,7 +122,8 @@ slice-aggregate-put-in-6 c = search needs
 
 put-in-requires-3 : tie.Need-put-in-requires-3
 put-in-requires-3 c κs =
-    let s = c .before .before .before .before .before .before .before .before .before .before .before .before .before .before .before .before .before .before .before in
+    let s = c .before .before .before .before .before .before .before .before .before .before .before .before .before .before .before
+    .before .before .before .before in
     let z = chosen (c .before .before .before .before .before .before .before .before .before .before) in
     (s .pre .0, (s .pre .1 .0, (fair s (long-3 c) z, (able-in 4128 8192 z (z .words) (z .symbols), s .pre .1 .1))))
 

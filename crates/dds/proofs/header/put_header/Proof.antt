@@ -47,8 +47,13 @@ same-length c = search needs
 returns : tie.Need-returns
 returns c =
     c .before .before .put-words .ensures
-    ∙ in-two (c .before .before .before .before .before .before .before .before .before .before .before .before .before .before .before .before .args .h) (c .before .before .before .before .before .before .before .before .before .before .before .before .before .before .before .before .args .dst .now) (linear (c .before .before .before .before .before .before .before .before .before .before .before .before .before .before)) (c .before .before .before .before .before .before .before .before .before .before .before .before .letters-of .ensures) (c .before .before .before .before .before .before .caps-of .ensures)
-    (c .before .before .before .before .before .caps2-of .ensures) (c .before .before .before .before .before .before .before .before .before .put-bytes .ensures)
+    ∙ in-two (c .before .before .before .before .before .before .before .before .before .before .before .before .before .before .before
+    .before .args .h) (c .before .before .before .before .before .before .before .before .before .before .before .before .before
+    .before .before .before .args .dst .now) (linear (c .before .before .before .before .before .before .before .before .before
+    .before .before .before .before .before)) (c .before .before .before .before .before .before .before .before .before .before
+    .before .before .letters-of .ensures) (c .before .before .before .before .before .before .caps-of .ensures)
+    (c .before .before .before .before .before .caps2-of .ensures) (c .before .before .before .before .before .before .before .before
+    .before .put-bytes .ensures)
 
 pub put-header-spec : {M : Type 1} → statement M
 put-header-spec =

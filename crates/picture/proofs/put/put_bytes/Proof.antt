@@ -38,14 +38,18 @@ loop-again : tie.Need-loop-again Inv-loop μ-loop
 loop-again c =
     let bytes = c .before .before .before .args .bytes .now in
     let at = c .before .before .before .args .at in
-    let i = c .before .before .loop .i in
-    (omega arith, ap (λ (d : List ℕ). set d (at + i) (getD bytes i 0)) (c .before .before .loop .inv .1) ∙ one-byte (c .before .before .before .args .dst .now) bytes at i (omega arith))
+    let i = c .before .before .loop .i in (
+      omega arith,
+      ap (λ (d : List ℕ). set d (at + i) (getD bytes i 0)) (c .before .before .loop .inv .1) ∙ one-byte (c .before .before
+          .before .args .dst .now) bytes at i (omega arith),
+    )
 
 same-length : tie.Need-same-length Inv-loop μ-loop
 same-length c = simp length-sets at (ap length (c .before .loop .inv .1))
 
 returns : tie.Need-returns Inv-loop μ-loop
-returns c = c .before .loop .inv .1 ∙ ap (sets (c .before .before .args .dst .now) (c .before .before .args .at)) (take-all (c .before .loop .i) (c .before .before .args .bytes .now) (omega arith))
+returns c = c .before .loop .inv .1 ∙ ap (sets (c .before .before .args .dst .now) (c .before .before .args .at)) (take-all
+    (c .before .loop .i) (c .before .before .args .bytes .now) (omega arith))
 
 pub put-bytes-spec : {M : Type 1} → statement M
 put-bytes-spec =

@@ -44,13 +44,23 @@ loop-less : tie.Need-loop-less Inv-loop μ-loop
 loop-less c = omega arith
 
 loop-again : tie.Need-loop-again Inv-loop μ-loop
-loop-again c = (omega arith, c .before .before .put-word .ensures ∙ ap (λ (d : List ℕ). sets d (c .before .before .before .before .before .before .before .before .before .args .at + 4 * c .before .before .before .before .before .before .loop .i) (little 4 (getD (c .before .before .before .before .before .before .before .before .before .args .ws .now) (c .before .before .before .before .before .before .loop .i) 0))) (c .before .before .before .before .before .before .loop .inv .1) ∙ one-word (c .before .before .before .before .before .before .before .before .before .args .dst .now) (c .before .before .before .before .before .before .before .before .before .args .ws .now) (c .before .before .before .before .before .before .before .before .before .args .at) (c .before .before .before .before .before .before .loop .i) (omega arith))
+loop-again c = (
+  omega arith,
+  c .before .before .put-word .ensures ∙ ap (λ (d : List ℕ). sets d (c .before .before .before .before .before
+      .before .before .before .before .args .at + 4 * c .before .before .before .before .before .before .loop .i) (little 4 (getD (c .before
+      .before .before .before .before .before .before .before .before .args .ws .now) (c .before .before .before .before .before
+      .before .loop .i) 0))) (c .before .before .before .before .before .before .loop .inv .1) ∙ one-word (c .before .before .before .before
+      .before .before .before .before .before .args .dst .now) (c .before .before .before .before .before .before .before .before
+      .before .args .ws .now) (c .before .before .before .before .before .before .before .before .before .args .at) (c .before .before
+      .before .before .before .before .loop .i) (omega arith),
+)
 
 same-length : tie.Need-same-length Inv-loop μ-loop
 same-length c = simp length-sets at (ap length (c .before .loop .inv .1))
 
 returns : tie.Need-returns Inv-loop μ-loop
-returns c = c .before .loop .inv .1 ∙ ap (λ (l : List ℕ). sets (c .before .before .before .before .args .dst .now) (c .before .before .before .before .args .at) (wordsOf l)) (take-all (c .before .loop .i) (c .before .before .before .before .args .ws .now) (omega arith))
+returns c = c .before .loop .inv .1 ∙ ap (λ (l : List ℕ). sets (c .before .before .before .before .args .dst .now) (c .before .before
+    .before .before .args .at) (wordsOf l)) (take-all (c .before .loop .i) (c .before .before .before .before .args .ws .now) (omega arith))
 
 pub put-words-spec : {M : Type 1} → statement M
 put-words-spec =

@@ -23,19 +23,45 @@ level-sizes-requires : tie.Need-level-sizes-requires Inv-loop μ-loop
 level-sizes-requires c κs = search needs
 
 add-sum : tie.Need-add-sum Inv-loop μ-loop
-add-sum c = omega (arith, distance-so (c .before .before .before .before .before .args .h) (c .before .before .before .before .before .pre) (c .before .before .before .before .loop .level) (omega (arith, c .before .before .if1 .taken)) (c .before .level-sizes .ensures), sum-small (c .before .before .before .before .before .args .h) (c .before .before .before .before .before .pre) (c .before .before .before .before .loop .level) (omega (arith, c .before .before .if1 .taken)), c .before .before .before .before .loop .inv .1)
+add-sum c = omega (
+  arith,
+  distance-so (c .before .before .before .before .before .args .h) (c .before .before .before .before
+      .before .pre) (c .before .before .before .before .loop .level) (omega (arith, c .before .before .if1 .taken))
+      (c .before .level-sizes .ensures),
+  sum-small (c .before .before .before .before .before .args .h) (c .before .before .before .before
+      .before .pre) (c .before .before .before .before .loop .level) (omega (arith, c .before .before .if1 .taken)),
+  c .before .before
+      .before .before .loop .inv .1,
+)
 
 add-level : tie.Need-add-level Inv-loop μ-loop
-add-level c = omega (arith, c .before .before .if1 .taken, limited (c .before .before .before .before .before .args .h) (c .before .before .before .before .before .pre) .levels)
+add-level c = omega (
+  arith,
+  c .before .before .if1 .taken,
+  limited (c .before .before .before .before .before .args .h) (c .before .before
+      .before .before .before .pre) .levels,
+)
 
 loop-less : tie.Need-loop-less Inv-loop μ-loop
 loop-less c = omega (arith, c .before .before .if1 .taken)
 
 loop-again : tie.Need-loop-again Inv-loop μ-loop
-loop-again c = (omega (arith, c .before .before .if1 .taken), omega (arith, distance-so (c .before .before .before .before .before .args .h) (c .before .before .before .before .before .pre) (c .before .before .before .before .loop .level) (omega (arith, c .before .before .if1 .taken)) (c .before .level-sizes .ensures), chain-after (pictureOf (c .before .before .before .before .before .args .h)) (c .before .before .before .before .loop .level), c .before .before .before .before .loop .inv .1))
+loop-again c = (
+  omega (arith, c .before .before .if1 .taken),
+  omega (
+    arith,
+    distance-so (c .before .before .before .before
+        .before .args .h) (c .before .before .before .before .before .pre) (c .before .before .before .before .loop .level) (omega
+        (arith, c .before .before .if1 .taken)) (c .before .level-sizes .ensures),
+    chain-after (pictureOf (c .before .before .before .before
+        .before .args .h)) (c .before .before .before .before .loop .level),
+    c .before .before .before .before .loop .inv .1,
+  ),
+)
 
 returns : tie.Need-returns Inv-loop μ-loop
-returns c = c .before .before .loop .inv .1 ∙ ap (chainTo (pictureOf (c .before .before .before .args .h))) (omega (arith, c .if1 .left, c .before .before .loop .inv .0))
+returns c = c .before .before .loop .inv .1 ∙ ap (chainTo (pictureOf (c .before .before .before .args .h))) (omega
+    (arith, c .if1 .left, c .before .before .loop .inv .0))
 
 pub chain-bytes-spec : {M : Type 1} → statement M
 chain-bytes-spec =

@@ -11,7 +11,8 @@ unfolding kindOf
 returns c = ⊎-elim (λ e. rw e) (λ o. ⊎-elim (λ e. rw e) (λ o. ⊎-elim (λ e. rw e) (λ e. rw e) o) o) (c .match .keys1)
 
 returns-2 : tie.Need-returns-2
-returns-2 c = sym (not-out (c .before .args .format) (λ e. c .match .rest .1 (inl e)) (λ e. c .match .rest .1 (inr (inl e))) (λ e. c .match .rest .1 (inr (inr (inl e)))) (λ e. c .match .rest .1 (inr (inr (inr e)))))
+returns-2 c = sym (not-out (c .before .args .format) (λ e. c .match .rest .1 (inl e)) (λ e. c .match .rest .1 (inr (inl e)))
+    (λ e. c .match .rest .1 (inr (inr (inl e)))) (λ e. c .match .rest .1 (inr (inr (inr e)))))
 
 pub goes-out-spec : {M : Type 1} → statement M
 goes-out-spec = tie.close (tie.spec returns returns-2)
