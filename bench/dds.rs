@@ -21,8 +21,9 @@ impl File {
         let words = raw::palette_words(&raw::look(&bytes).header);
         let (mut record, mut ce, mut cs) = (Record::empty(), vec![0; words.color_endpoints], vec![0; words.color_selectors]);
         let (mut ae, mut al) = (vec![0; words.alpha_endpoints], vec![0; words.alpha_selectors]);
-        let palettes = &mut PalettesMut { color_endpoints: &mut ce, color_selectors: &mut cs, alpha_endpoints: &mut ae, alpha_selectors: &mut al };
-        assert_eq!(raw::open(&bytes, palettes, &mut record).refusal, 0);
+        let mut palettes =
+            PalettesMut { color_endpoints: &mut ce, color_selectors: &mut cs, alpha_endpoints: &mut ae, alpha_selectors: &mut al };
+        assert_eq!(raw::open(&bytes, &mut palettes, &mut record).refusal, 0);
         File { bytes, record, ce, cs, ae, al }
     }
 
@@ -80,7 +81,8 @@ fn main() {
                     rounds += 1;
                 }
                 let (ratio, faces) = (best[1] / best[0], file.record.header.faces);
-                println!("| {kind} | {side} x {side} | {faces} | {} | {:.1} | {:.1} | {ratio:.2} |", dds.len(), best[0] * 1e6, best[1] * 1e6);
+                let [unpack, write] = best.map(|time| time * 1e6);
+                println!("| {kind} | {side} x {side} | {faces} | {} | {unpack:.1} | {write:.1} | {ratio:.2} |", dds.len());
                 if *side == 1024 {
                     let most = &mut most[(faces == 6) as usize];
                     *most = most.max(ratio);
