@@ -337,41 +337,6 @@ fn level_call(
     0
 }
 
-fn level_calls(
-    file: Record,
-    bytes: &[u8],
-    color_endpoints: &[u32],
-    color_selectors: &[u32],
-    alpha_endpoints: &[u16],
-    alpha_selectors: &[u16],
-    value: u8,
-    space: &mut [u8],
-) -> u32 {
-    let mut head = [0u8; 1];
-    if !take(&mut head) {
-        return 1;
-    }
-    let n = crn_utils::byte(&head, 0);
-    let mut k: u32 = 0;
-    while k < n {
-        let ended = level_call(
-            file,
-            bytes,
-            color_endpoints,
-            color_selectors,
-            alpha_endpoints,
-            alpha_selectors,
-            value,
-            space,
-        );
-        if ended != 0 {
-            return ended;
-        }
-        k += 1;
-    }
-    0
-}
-
 // A DDS file written into a destination of just the lent length, each byte filled first.
 fn write_filled(
     file: Record,
@@ -442,7 +407,45 @@ fn dds_call(
     0
 }
 
-fn dds_calls(
+// The next call, of a DDS file or of a level.
+fn one_call(
+    dds: bool,
+    file: Record,
+    bytes: &[u8],
+    color_endpoints: &[u32],
+    color_selectors: &[u32],
+    alpha_endpoints: &[u16],
+    alpha_selectors: &[u16],
+    value: u8,
+    space: &mut [u8],
+) -> u32 {
+    if dds {
+        return dds_call(
+            file,
+            bytes,
+            color_endpoints,
+            color_selectors,
+            alpha_endpoints,
+            alpha_selectors,
+            value,
+            space,
+        );
+    }
+    level_call(
+        file,
+        bytes,
+        color_endpoints,
+        color_selectors,
+        alpha_endpoints,
+        alpha_selectors,
+        value,
+        space,
+    )
+}
+
+// As many calls as the next byte says.
+fn calls(
+    dds: bool,
     file: Record,
     bytes: &[u8],
     color_endpoints: &[u32],
@@ -459,7 +462,8 @@ fn dds_calls(
     let n = crn_utils::byte(&head, 0);
     let mut k: u32 = 0;
     while k < n {
-        let ended = dds_call(
+        let ended = one_call(
+            dds,
             file,
             bytes,
             color_endpoints,
@@ -493,7 +497,8 @@ fn levels(
         return 1;
     }
     let file = e.file;
-    let ended = level_calls(
+    let ended = calls(
+        false,
         file,
         bytes,
         color_endpoints,
@@ -506,7 +511,8 @@ fn levels(
     if ended != 0 {
         return ended;
     }
-    dds_calls(
+    calls(
+        true,
         file,
         bytes,
         color_endpoints,

@@ -6,6 +6,18 @@ ghost use lib.Seq.{sets};
 ghost use Rattle.crn_format.specs.Grid.{little};
 ghost use Rattle.picture.specs.Words.{wordsOf};
 
+// Bytes as they stand, from `at` on.
+pub fn put_bytes(bytes: &[u8], at: usize, dst: &mut [u8])
+    requires { ⌜ at + length (now bytes) ≤ length (now dst) ⌝ }
+    ensures { λ r. ⌜ now (dst .exit) ≡ sets (now (dst .entry)) at (now (bytes .entry)) ⌝ }
+{
+    let mut i = 0;
+    while i < bytes.len() {
+        dst[at + i] = bytes[i];
+        i += 1;
+    }
+}
+
 // A word's four bytes, from `at` on.
 fn put_word(w: u32, at: usize, dst: &mut [u8])
     requires { ⌜ at + 4 ≤ length (now dst) ⌝ }
@@ -14,10 +26,13 @@ fn put_word(w: u32, at: usize, dst: &mut [u8])
     let second = w / 256;
     let third = second / 256;
     let fourth = third / 256;
-    dst[at] = (w % 256) as u8;
-    dst[at + 1] = (second % 256) as u8;
-    dst[at + 2] = (third % 256) as u8;
-    dst[at + 3] = (fourth % 256) as u8;
+    let bytes = [
+        (w % 256) as u8,
+        (second % 256) as u8,
+        (third % 256) as u8,
+        (fourth % 256) as u8,
+    ];
+    put_bytes(&bytes, at, dst);
 }
 
 // Words one after another, from `at` on.
@@ -28,18 +43,6 @@ pub fn put_words(ws: &[u32], at: usize, dst: &mut [u8])
     let mut i = 0;
     while i < ws.len() {
         put_word(ws[i], at + 4 * i, dst);
-        i += 1;
-    }
-}
-
-// Bytes as they stand, from `at` on.
-pub fn put_bytes(bytes: &[u8], at: usize, dst: &mut [u8])
-    requires { ⌜ at + length (now bytes) ≤ length (now dst) ⌝ }
-    ensures { λ r. ⌜ now (dst .exit) ≡ sets (now (dst .entry)) at (now (bytes .entry)) ⌝ }
-{
-    let mut i = 0;
-    while i < bytes.len() {
-        dst[at + i] = bytes[i];
         i += 1;
     }
 }

@@ -1,71 +1,43 @@
--- Four stores, one after another. Assumes nothing.
-use Prim.Native.Nat.{suc, _+_}
-use mathlib.Core.Path.{_≡_}
-use native.Mathlib.Omega.{arith}
-use lib.ListN.{length-set}
+-- The four bytes, lowest first.
 use Rattle.crn_format.specs.Grid.{little}
 use borrow.Author.Needs.{needs}
 use Rattle.picture.proofs.put.put_word.Statement.{statement}
 use Rattle.picture.proofs.put.put_word.Tie as tie
 
-cast-dst : tie.Need-cast-dst
-cast-dst c = search needs
+cast-t9 : tie.Need-cast-t9
+cast-t9 c = search needs
 
-slice-write-dst : tie.Need-slice-write-dst
-slice-write-dst c = search needs
+cast-t11 : tie.Need-cast-t11
+cast-t11 c = search needs
 
-cast-dst-2 : tie.Need-cast-dst-2
-cast-dst-2 c = search needs
+cast-t13 : tie.Need-cast-t13
+cast-t13 c = search needs
 
-add-dst : tie.Need-add-dst
-add-dst c = search needs
+cast-t15 : tie.Need-cast-t15
+cast-t15 c = search needs
 
-slice-write-dst-2 : tie.Need-slice-write-dst-2
-slice-write-dst-2 c = simp length-set (omega arith)
+slice-aggregate-put-bytes : tie.Need-slice-aggregate-put-bytes
+slice-aggregate-put-bytes c = search needs
 
-cast-dst-3 : tie.Need-cast-dst-3
-cast-dst-3 c = search needs
-
-add-dst-2 : tie.Need-add-dst-2
-add-dst-2 c = search needs
-
-slice-write-dst-3 : tie.Need-slice-write-dst-3
-slice-write-dst-3 c = simp length-set (omega arith)
-
-cast-dst-4 : tie.Need-cast-dst-4
-cast-dst-4 c = search needs
-
-add-dst-3 : tie.Need-add-dst-3
-add-dst-3 c = search needs
-
-slice-write-dst-4 : tie.Need-slice-write-dst-4
-slice-write-dst-4 c = simp length-set (omega arith)
+put-bytes-requires : tie.Need-put-bytes-requires
+put-bytes-requires c κs = search needs
 
 same-length : tie.Need-same-length
 same-length c = search needs
 
 returns : tie.Need-returns
 unfolding little
-returns c =
-    let one : c .args .at + 1 ≡ suc (c .args .at) = omega arith in
-    let two : c .args .at + 2 ≡ suc (suc (c .args .at)) = omega arith in
-    let three : c .args .at + 3 ≡ suc (suc (suc (c .args .at))) = omega arith in
-    simp (one, two, three)
+returns c = c .before .before .put-bytes .ensures
 
 pub put-word-spec : {M : Type 1} → statement M
 put-word-spec =
     tie.close
     (tie.spec
-    cast-dst
-    slice-write-dst
-    cast-dst-2
-    add-dst
-    slice-write-dst-2
-    cast-dst-3
-    add-dst-2
-    slice-write-dst-3
-    cast-dst-4
-    add-dst-3
-    slice-write-dst-4
+    cast-t9
+    cast-t11
+    cast-t13
+    cast-t15
+    slice-aggregate-put-bytes
+    put-bytes-requires
     same-length
     returns)

@@ -1,17 +1,17 @@
--- `level_calls`. Invariant: no more calls than there are, and the space keeps its length.
+-- `calls`. Invariant: no more calls than there are, and the space keeps its length.
 use Prim.Native.Nat.{_≤_, _-_}
 use mathlib.Core.Path.{_≡_}
 use lib.ListN.{length}
 use borrow.Author.Needs.{needs}
-use Rattle.crn_cases.proofs.level_calls.Statement.{statement}
-use Rattle.crn_cases.proofs.level_calls.Tie as tie
+use Rattle.crn_cases.proofs.calls.Statement.{statement}
+use Rattle.crn_cases.proofs.calls.Tie as tie
 
 abbrev Inv-loop : tie.InvT-loop
-Inv-loop file bytes color-endpoints color-selectors alpha-endpoints alpha-selectors value space₀ n k₀ space k =
+Inv-loop dds file bytes color-endpoints color-selectors alpha-endpoints alpha-selectors value space₀ n k₀ space k =
     (length space ≡ length space₀) × (k ≤ n)
 
 abbrev μ-loop : tie.MeasureT-loop
-μ-loop file bytes color-endpoints color-selectors alpha-endpoints alpha-selectors value space₀ n k₀ space k =
+μ-loop dds file bytes color-endpoints color-selectors alpha-endpoints alpha-selectors value space₀ n k₀ space k =
     n - k
 
 slice-aggregate-take : tie.Need-slice-aggregate-take Inv-loop μ-loop
@@ -32,8 +32,8 @@ byte-requires c κs = search needs
 loop-holds : tie.Need-loop-holds Inv-loop μ-loop
 loop-holds c = search needs
 
-level-call-requires : tie.Need-level-call-requires Inv-loop μ-loop
-level-call-requires c κs = search needs
+one-call-requires : tie.Need-one-call-requires Inv-loop μ-loop
+one-call-requires c κs = search needs
 
 same-length : tie.Need-same-length Inv-loop μ-loop
 same-length c = search needs
@@ -56,8 +56,8 @@ same-length-2 c = search needs
 returns-3 : tie.Need-returns-3 Inv-loop μ-loop
 returns-3 c = search needs
 
-pub level-calls-spec : {M : Type 1} → statement M
-level-calls-spec =
+pub calls-spec : {M : Type 1} → statement M
+calls-spec =
     tie.close
     (tie.spec
     Inv-loop
@@ -68,7 +68,7 @@ level-calls-spec =
     slice-aggregate-byte
     byte-requires
     loop-holds
-    level-call-requires
+    one-call-requires
     same-length
     returns-2
     add-k
