@@ -25,7 +25,7 @@ use Rattle.crn_blocks.specs.Sheet.{Room, Painted, Covered, rowStart, chunkNumbe
 use Rattle.crn_blocks.proofs.Paint as paint
 use Rattle.crn_blocks.proofs.Paint.{painted-outside, outside-then, outside-start}
 use Rattle.crn_blocks.proofs.Turns.{parity}
-use Rattle.crn_blocks.proofs.Rows.{chunk-number-right, chunk-number-left, inside-of}
+use Rattle.crn_blocks.proofs.Rows.{chunk-number-right, chunk-number-left, inside-of, row-later}
 use Rattle.crn_unpacker.specs.Going.{Given, Fit, Course, Stands, Gone, Halted, Moved, Goes, none, stateAt, chunkHere, blockHere}
 use Rattle.crn_chunk_blocks.specs.Blocks.{blockIn}
 use Rattle.crn_unpacker.specs.declared.Went.{Went}
@@ -89,6 +89,13 @@ module _ {l : Given} where
                   record { why = y .why; rest = outside-then (painted-outside (m .paint)) (y .rest) };
             };
       }
+
+  -- on from row y of a face
+  pub carry-rows : (f : ℕ) {n x y z : ℕ} {r q : Carried} {s t : Stream} {d e e′ : List ℕ} {w : Went} → Room (l .grid) n → x ≤ y → y ≤ z
+      → Goes l (rowStart (l .grid) f x) (rowStart (l .grid) f y) r s d e (On q t)
+      → Goes l (rowStart (l .grid) f y) (rowStart (l .grid) f z) q t e e′ w
+      → Goes l (rowStart (l .grid) f x) (rowStart (l .grid) f z) r s d e′ w
+  carry-rows f room xy yz = carry room (row-later (l .grid) f xy) (row-later (l .grid) f yz)
 
   -- what was refused is refused for good
   pub stop-early : {a b c : ℕ} {r : Carried} {s : Stream} {d e : List ℕ} {w : Went} {x : Stop} → b ≤ c → w ≡ Stopped x

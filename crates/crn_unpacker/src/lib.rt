@@ -4,7 +4,7 @@ ghost use lib.ListN.{length};
 ghost use Rattle.crn_format.specs.Grid.{chunkCount};
 ghost use Rattle.crn_symbol_codec.specs.Cursors.{Holds};
 ghost use Rattle.crn_unpacker.specs.Going.{given, Fit, Goes, none};
-use crate::rows::rightward;
+use crate::rows::face_rows;
 use crn_chunks::Carried;
 use crn_chunks::Planes;
 use crn_chunks::Stop;
@@ -38,8 +38,6 @@ pub fn paint(
 {
     let mut out = [0u64; 16];
     let faces = g.faces;
-    let rows = g.rows;
-    let high = (rows + 1) / 2;
     let mut n = Carried {
         pending: 0,
         e0: 0,
@@ -50,7 +48,7 @@ pub fn paint(
     let mut t = s;
     let mut face = 0;
     while face < faces {
-        let w = rightward(
+        let w = face_rows(
             dst,
             &mut out,
             lookup,
@@ -65,8 +63,6 @@ pub fn paint(
             n,
             t,
             face,
-            0,
-            high,
         );
         let Went::On(m, u) = w else {
             return w;

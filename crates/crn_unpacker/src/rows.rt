@@ -137,8 +137,8 @@ fn row(
     Went::On(n, t)
 }
 
-// The chunk rows from cy on, the first of them left to right.
-pub fn rightward(
+// `left` chunk rows from cy on, the first of them left to right.
+fn rightward(
     dst: &mut [u8],
     out: &mut [u64; 16],
     lookup: &[u32],
@@ -156,8 +156,11 @@ pub fn rightward(
     cy: usize,
     left: usize,
 ) -> Went
-    requires { ⌜ Fit (given (now lookup) (now sorted) (now seg) (now cends) (now csels) (now aends) (now asels) ps g) (length (now dst)) ⌝ ∗ ⌜ Onward (now seg) r s ⌝ ∗ ⌜ Rows g face cy left 0 ⌝ }
-    ensures { λ w. ⌜ Goes (given (now (lookup .entry)) (now (sorted .entry)) (now (seg .entry)) (now (cends .entry)) (now (csels .entry)) (now (aends .entry)) (now (asels .entry)) ps g) (rowStart g face cy) (rowStart g face (chunkRows g)) r s (now (dst .entry)) (now (dst .exit)) w ⌝ }
+    requires { ⌜ Fit (given (now lookup) (now sorted) (now seg) (now cends) (now csels) (now aends) (now asels) ps g)
+        (length (now dst)) ⌝ ∗ ⌜ Onward (now seg) r s ⌝ ∗ ⌜ Rows g face cy left 0 ⌝ }
+    ensures { λ w. ⌜ Goes (given (now (lookup .entry)) (now (sorted .entry)) (now (seg .entry)) (now (cends .entry)) (now (csels .entry))
+        (now (aends .entry)) (now (asels .entry)) ps g) (rowStart g face cy) (rowStart g face (cy + left)) r s
+        (now (dst .entry)) (now (dst .exit)) w ⌝ }
 {
     if left == 0 {
         return Went::On(r, s);
@@ -203,7 +206,7 @@ pub fn rightward(
     )
 }
 
-// The chunk rows from cy on, the first of them right to left.
+// `left` chunk rows from cy on, the first of them right to left.
 fn leftward(
     dst: &mut [u8],
     out: &mut [u64; 16],
@@ -222,8 +225,11 @@ fn leftward(
     cy: usize,
     left: usize,
 ) -> Went
-    requires { ⌜ Fit (given (now lookup) (now sorted) (now seg) (now cends) (now csels) (now aends) (now asels) ps g) (length (now dst)) ⌝ ∗ ⌜ Onward (now seg) r s ⌝ ∗ ⌜ Rows g face cy left 1 ⌝ }
-    ensures { λ w. ⌜ Goes (given (now (lookup .entry)) (now (sorted .entry)) (now (seg .entry)) (now (cends .entry)) (now (csels .entry)) (now (aends .entry)) (now (asels .entry)) ps g) (rowStart g face cy) (rowStart g face (chunkRows g)) r s (now (dst .entry)) (now (dst .exit)) w ⌝ }
+    requires { ⌜ Fit (given (now lookup) (now sorted) (now seg) (now cends) (now csels) (now aends) (now asels) ps g)
+        (length (now dst)) ⌝ ∗ ⌜ Onward (now seg) r s ⌝ ∗ ⌜ Rows g face cy left 1 ⌝ }
+    ensures { λ w. ⌜ Goes (given (now (lookup .entry)) (now (sorted .entry)) (now (seg .entry)) (now (cends .entry)) (now (csels .entry))
+        (now (aends .entry)) (now (asels .entry)) ps g) (rowStart g face cy) (rowStart g face (cy + left)) r s
+        (now (dst .entry)) (now (dst .exit)) w ⌝ }
 {
     if left == 0 {
         return Went::On(r, s);
@@ -266,5 +272,82 @@ fn leftward(
         face,
         cy + 1,
         left - 1,
+    )
+}
+
+// So many chunk rows call each other at most, which bounds the stack at any size. An even number, so that every band begins left to right.
+const BAND: usize = 32;
+
+// The chunk rows of a face, in bands; the last band is what is left.
+pub fn face_rows(
+    dst: &mut [u8],
+    out: &mut [u64; 16],
+    lookup: &[u32],
+    sorted: &[u16],
+    seg: &[u8],
+    cends: &[u32],
+    csels: &[u32],
+    aends: &[u16],
+    asels: &[u16],
+    ps: Planes,
+    g: Grid,
+    r: Carried,
+    s: Stream,
+    face: usize,
+) -> Went
+    requires { ⌜ Fit (given (now lookup) (now sorted) (now seg) (now cends) (now csels) (now aends) (now asels) ps g)
+        (length (now dst)) ⌝ ∗ ⌜ Onward (now seg) r s ⌝ ∗ ⌜ face < g .faces ⌝ }
+    ensures { λ w. ⌜ Goes (given (now (lookup .entry)) (now (sorted .entry)) (now (seg .entry)) (now (cends .entry)) (now (csels .entry))
+        (now (aends .entry)) (now (asels .entry)) ps g) (rowStart g face 0) (rowStart g face (chunkRows g)) r s
+        (now (dst .entry)) (now (dst .exit)) w ⌝ }
+{
+    let rows = g.rows;
+    let high = (rows + 1) / 2;
+    let mut n = r;
+    let mut t = s;
+    let mut cy = 0;
+    while BAND < high - cy {
+        let w = rightward(
+            dst,
+            out,
+            lookup,
+            sorted,
+            seg,
+            cends,
+            csels,
+            aends,
+            asels,
+            ps,
+            g,
+            n,
+            t,
+            face,
+            cy,
+            BAND,
+        );
+        let Went::On(m, u) = w else {
+            return w;
+        };
+        n = m;
+        t = u;
+        cy += BAND;
+    }
+    rightward(
+        dst,
+        out,
+        lookup,
+        sorted,
+        seg,
+        cends,
+        csels,
+        aends,
+        asels,
+        ps,
+        g,
+        n,
+        t,
+        face,
+        cy,
+        high - cy,
     )
 }

@@ -12,14 +12,14 @@ use Rattle.crn_unpacker.proofs.paint.Statement.{statement}
 use Rattle.crn_unpacker.proofs.paint.Tie as tie
 
 abbrev Inv-loop : tie.InvT-loop
-Inv-loop dst₀ lookup sorted seg cends csels aends asels ps g out₀ faces rows high n₀ t₀ face₀ dst out n t face =
+Inv-loop dst₀ lookup sorted seg cends csels aends asels ps g out₀ faces n₀ t₀ face₀ dst out n t face =
     (face ≤ faces) × Goes (given lookup sorted seg cends csels aends asels ps g) 0 (rowStart g face 0) n₀ t₀ dst₀ dst (On n t)
 
 abbrev μ-loop : tie.MeasureT-loop
-μ-loop dst₀ lookup sorted seg cends csels aends asels ps g out₀ faces rows high n₀ t₀ face₀ dst out n t face =
+μ-loop dst₀ lookup sorted seg cends csels aends asels ps g out₀ faces n₀ t₀ face₀ dst out n t face =
     faces - face
 
-abbrev entry : tie.After-rightward Inv-loop μ-loop → tie.Start Inv-loop μ-loop
+abbrev entry : tie.After-face-rows Inv-loop μ-loop → tie.Start Inv-loop μ-loop
 entry c = c .before .before .before .before .before .before .before .before .before .before .before .before .before
 
 abbrev all : tie.Start Inv-loop μ-loop → Given
@@ -28,25 +28,23 @@ all s =
     given (a .lookup .now) (a .sorted .now) (a .seg .now) (a .cends .now) (a .csels .now) (a .aends .now) (a .asels .now) (a .ps) (a .g)
 
 -- the faces so far, with this turn's
-moved : (c : tie.After-rightward Inv-loop μ-loop)
+moved : (c : tie.After-face-rows Inv-loop μ-loop)
     → Goes (all (entry c)) 0 (rowStart (entry c .args .g) (c .before .before .before .before .loop .face + 1) 0) none (entry c .args .s)
-    (entry c .args .dst .now) (c .rightward .last .0) (c .rightward .result)
+    (entry c .args .dst .now) (c .face-rows .last .0) (c .face-rows .result)
 moved c =
     let g = entry c .args .g in
     let face = c .before .before .before .before .loop .face in
     carry (entry c .pre .0 .room) (omega arith) (face-later g (omega arith)) (c .before .before .before .before .loop .inv .1)
-    (respell refl (face-next g face) refl (c .rightward .ensures))
-
-add-high : tie.Need-add-high Inv-loop μ-loop
-add-high c = omega (arith, c .before .before .before .before .before .before .before .before .pre .0 .room .few-rows)
+    (respell refl (face-next g face) refl (c .face-rows .ensures))
 
 loop-holds : tie.Need-loop-holds Inv-loop μ-loop
 loop-holds c = (omega arith, start (row-first (c .before .before .before .before .before .before .before .before .args .g)) (onward-first (c .before .before .before .before .before .before .before .before .args .s) (c .before .before .before .before .before .before .before .before .pre .1)))
 
-rightward-requires : tie.Need-rightward-requires Inv-loop μ-loop
-rightward-requires c κs =
+face-rows-requires : tie.Need-face-rows-requires Inv-loop μ-loop
+face-rows-requires c κs =
+    let s = c .before .before .before .before .before .before .before .before .before .before .before .before in
     let i = c .before .before .before .loop .inv .1 in
-    (fit-kept (c .before .before .before .before .before .before .before .before .before .before .before .before .pre .0) (i .long), (i .onward _ _ refl, record { face = c .before .before .loop-test .taken; some = omega arith; way = refl }))
+    (fit-kept (s .pre .0) (i .long), (i .onward _ _ refl, c .before .before .loop-test .taken))
 
 enum-known-w : tie.Need-enum-known-w Inv-loop μ-loop
 enum-known-w c = search needs
@@ -55,7 +53,9 @@ enum-told : tie.Need-enum-told Inv-loop μ-loop
 enum-told c = search needs
 
 same-length : tie.Need-same-length Inv-loop μ-loop
-same-length c = c .before .before .before .before .rightward .kept .0 ∙ c .before .before .before .before .before .before .before .before .loop .inv .1 .long
+same-length c =
+    let i = c .before .before .before .before .before .before .before .before .loop .inv in
+    c .before .before .before .before .face-rows .kept .0 ∙ i .1 .long
 
 returns : tie.Need-returns Inv-loop μ-loop
 returns c =
@@ -88,9 +88,8 @@ paint-spec =
     (tie.spec
     Inv-loop
     μ-loop
-    add-high
     loop-holds
-    rightward-requires
+    face-rows-requires
     enum-known-w
     enum-told
     same-length

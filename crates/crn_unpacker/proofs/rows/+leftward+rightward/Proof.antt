@@ -7,7 +7,7 @@ use borrow.Fn.Kinds.{In}
 use borrow.Fn.PlainCycle.{Measures, is, falls, and}
 use Rattle.crn_blocks.specs.Sheet.{rowStart}
 use Rattle.crn_blocks.proofs.Rows.{row-later}
-use Rattle.crn_unpacker.proofs.Steps.{start, carry, stop-early, respell, fit-kept}
+use Rattle.crn_unpacker.proofs.Steps.{start, carry-rows, stop-early, respell, fit-kept}
 use Rattle.crn_unpacker.proofs.rows.leftward.Reads as leftward
 use Rattle.crn_unpacker.proofs.rows.leftward.Kinds as leftward-kinds
 use Rattle.crn_unpacker.proofs.rows.+leftward+rightward.Lts-leftward as leftward-lts
@@ -46,8 +46,7 @@ leftward-returns : (t : ℕ) → leftward-lts.Need-returns (
 ) (leftward-at t) leftward.Post
 leftward-returns t c =
     let s = c .before .before .before .before .before .before .before .before .before in
-    let p = s .pre .1 in
-    start (ap (rowStart (s .args .g) (s .args .face)) (omega (arith, p .1 .1 .some, c .if1 .taken))) (p .1 .0)
+    start (ap (rowStart (s .args .g) (s .args .face)) (omega (arith, c .if1 .taken))) (s .pre .1 .1 .0)
 
 leftward-row-requires : (t : ℕ) → leftward-lts.Need-row-requires (
   row-reads.Asked,
@@ -92,7 +91,8 @@ leftward-returns-2 : (t : ℕ) → leftward-lts.Need-returns-2 (
 ) (leftward-at t) leftward.Post
 leftward-returns-2 t c =
     let s = c .before .before .before .before .before .before .before .before .before .before .before .before .before .before .before .before in
-    stop-early (row-later (s .args .g) (s .args .face) (omega (arith, s .pre .1 .1 .1 .some, c .before .before .before .before .before .before .before .if1 .left))) (c .enum-told .given .1)
+    let more = c .before .before .before .before .before .before .before .if1 .left in
+    stop-early (row-later (s .args .g) (s .args .face) (omega (arith, more))) (c .enum-told .given .1)
     (c .before .before .before .before .row .ensures)
 
 leftward-add-rightward : (t : ℕ) → leftward-lts.Need-add-rightward (
@@ -152,11 +152,11 @@ leftward-returns-3 : (t : ℕ) → leftward-lts.Need-returns-3 (
 ) (leftward-at t) leftward.Post
 leftward-returns-3 t c =
     let s = c .before .before .before .before .before .before .before .before .before .before .before .before .before .before .before .before .before .before .before .before .before .before in
-    let g = s .args .g in
-    let p = s .pre .1 in
-    carry (p .0 .room) (row-later g (s .args .face) (omega arith))
-    (row-later g (s .args .face) (omega (arith, p .1 .1 .some, c .before .before .before .before .before .before .before .before .before .before .before .before .before .if1 .left)))
-    (respell refl refl (c .before .before .before .before .before .before .w .given .1) (c .before .before .before .before .before .before .before .before .before .before .row .ensures)) (c .before .before .rightward .ensures)
+    let more = c .before .before .before .before .before .before .before .before .before .before .before .before .before .if1 .left in
+    carry-rows (s .args .face) (s .pre .1 .0 .room) (omega arith) (omega (arith, more))
+    (respell refl refl (c .before .before .before .before .before .before .w .given .1)
+    (c .before .before .before .before .before .before .before .before .before .before .row .ensures))
+    (respell refl (ap (rowStart (s .args .g) (s .args .face)) (omega (arith, more))) refl (c .before .before .rightward .ensures))
 
 rightward-returns : (t : ℕ) → rightward-lts.Need-returns (
   row-reads.Asked,
@@ -166,8 +166,7 @@ rightward-returns : (t : ℕ) → rightward-lts.Need-returns (
 ) (rightward-at t) rightward.Post
 rightward-returns t c =
     let s = c .before .before .before .before .before .before .before .before .before in
-    let p = s .pre .1 in
-    start (ap (rowStart (s .args .g) (s .args .face)) (omega (arith, p .1 .1 .some, c .if1 .taken))) (p .1 .0)
+    start (ap (rowStart (s .args .g) (s .args .face)) (omega (arith, c .if1 .taken))) (s .pre .1 .1 .0)
 
 rightward-row-requires : (t : ℕ) → rightward-lts.Need-row-requires (
   row-reads.Asked,
@@ -212,7 +211,8 @@ rightward-returns-2 : (t : ℕ) → rightward-lts.Need-returns-2 (
 ) (rightward-at t) rightward.Post
 rightward-returns-2 t c =
     let s = c .before .before .before .before .before .before .before .before .before .before .before .before .before .before .before .before in
-    stop-early (row-later (s .args .g) (s .args .face) (omega (arith, s .pre .1 .1 .1 .some, c .before .before .before .before .before .before .before .if1 .left))) (c .enum-told .given .1)
+    let more = c .before .before .before .before .before .before .before .if1 .left in
+    stop-early (row-later (s .args .g) (s .args .face) (omega (arith, more))) (c .enum-told .given .1)
     (c .before .before .before .before .row .ensures)
 
 rightward-add-leftward : (t : ℕ) → rightward-lts.Need-add-leftward (
@@ -272,11 +272,11 @@ rightward-returns-3 : (t : ℕ) → rightward-lts.Need-returns-3 (
 ) (rightward-at t) rightward.Post
 rightward-returns-3 t c =
     let s = c .before .before .before .before .before .before .before .before .before .before .before .before .before .before .before .before .before .before .before .before .before .before in
-    let g = s .args .g in
-    let p = s .pre .1 in
-    carry (p .0 .room) (row-later g (s .args .face) (omega arith))
-    (row-later g (s .args .face) (omega (arith, p .1 .1 .some, c .before .before .before .before .before .before .before .before .before .before .before .before .before .if1 .left)))
-    (respell refl refl (c .before .before .before .before .before .before .w .given .1) (c .before .before .before .before .before .before .before .before .before .before .row .ensures)) (c .before .before .leftward .ensures)
+    let more = c .before .before .before .before .before .before .before .before .before .before .before .before .before .if1 .left in
+    carry-rows (s .args .face) (s .pre .1 .0 .room) (omega arith) (omega (arith, more))
+    (respell refl refl (c .before .before .before .before .before .before .w .given .1)
+    (c .before .before .before .before .before .before .before .before .before .before .row .ensures))
+    (respell refl (ap (rowStart (s .args .g) (s .args .face)) (omega (arith, more))) refl (c .before .before .leftward .ensures))
 
 pub +leftward+rightward-spec : {M : Type 1} → statement M
 +leftward+rightward-spec = close μ-leftward μ-rightward (λ t. leftward-lts.spec (
