@@ -25,6 +25,10 @@
 extern "C" {
 #endif
 
+/* The version of the structs and arguments below, raised whenever one of them changes. An archive that fits this header gives the same. */
+#define CRUNCH_ABI_VERSION 1
+uint32_t crunch_abi_version(void);
+
 /* Where a part of the file stands, and how many palette entries it has. */
 struct crunch_part {
     uint32_t offset, size, count;

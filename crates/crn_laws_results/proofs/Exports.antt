@@ -17,6 +17,7 @@ use Rattle.crunch_abi.proofs.crunch_palette_words.Reads as crunch-palette-words
 use Rattle.crunch_abi.proofs.crunch_level_sizes.Reads as crunch-level-sizes
 use Rattle.crunch_abi.proofs.crunch_unpack_level_parts.Reads as crunch-unpack-level-parts
 use Rattle.crunch_abi.proofs.crunch_unpack_levels_parts.Reads as crunch-unpack-levels-parts
+use Rattle.crunch_abi.proofs.crunch_abi_version.Reads as crunch-abi-version
 use Rattle.crn_laws_results.specs.Settled.{Settled, theAnswer, alike, alike₂}
 use Rattle.crn_laws_results.proofs.Entry.{unpacks-settled, gives-settled}
 
@@ -28,6 +29,9 @@ crunch-palette-words-settled _ _ _ _ _ _ _ p q = alike p q
 
 pub crunch-level-sizes-settled : Settled crunch-level-sizes.Post theAnswer
 crunch-level-sizes-settled _ _ _ _ _ _ _ p q = alike p q
+
+pub crunch-abi-version-settled : Settled crunch-abi-version.Post theAnswer
+crunch-abi-version-settled _ _ _ _ _ _ _ p q = alike p q
 
 pub crunch-open-parts-settled : Settled {X = Opened × Palettes} crunch-open-parts.Post
     (λ a r (file, (ce, (cs, (ae, (al, (t₁, (t₂, (t₃, (t₄, (t₅, _)))))))))).

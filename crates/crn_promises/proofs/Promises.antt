@@ -22,10 +22,12 @@ use Rattle.crunch_abi.proofs.crunch_unpack_level_parts.Reads as crunch-unpack-l
 use Rattle.crunch_abi.proofs.crunch_unpack_levels_parts.Reads as crunch-unpack-levels-parts
 use Rattle.crunch_abi.proofs.crunch_write_dds_parts.Reads as crunch-write-dds-parts
 use Rattle.crunch_abi.proofs.crunch_dds_bytes.Reads as crunch-dds-bytes
+use Rattle.crunch_abi.proofs.crunch_abi_version.Reads as crunch-abi-version
 use Rattle.crn_sizes.specs.Sizes.{levelSizes}
 use Rattle.picture.specs.Answers.{neededFor}
 use Rattle.dds.specs.Header.{ddsOf}
 use Rattle.crunch_abi.specs.Sizes.{paletteWords}
+use Rattle.crunch_abi.specs.Version.{abiVersion}
 use Rattle.crn_promises.specs.Calls.{Says, openCall, openPartsCall, levelCall, levelByCall, levelPartsCall, levelsCall, ddsCall}
 use Rattle.crn_promises.specs.Promises.{LookTotal, OpenTotal, LevelTotal, LevelsTotal, OpenSame, LevelSame, LevelsSame, LevelExact, LevelsExact, OpenReady, LevelReady, LevelsReady, OpenTold, LevelTold, LevelsTold}
 use Rattle.crn_promises.specs.Promises.{DdsSame, DdsTotal, DdsExact, DdsReady, DdsTold, BytesTotal}
@@ -152,6 +154,9 @@ crunch-palette-words-so κ a r e p = p
 
 pub crunch-level-sizes-so : Says crunch-level-sizes.Post (λ (header, (level, _)) r e. r ≡ levelSizes header level)
 crunch-level-sizes-so κ a r e p = p
+
+pub crunch-abi-version-so : Says crunch-abi-version.Post (λ a r e. r ≡ abiVersion)
+crunch-abi-version-so κ a r e p = p
 
 pub open-told : Says open-call.Post (λ a r e. OpenTold (openCall a r e))
 open-told κ a r e p = opening.open-told (openCall a r e) p

@@ -11,6 +11,7 @@ use crunch::OpenedHeader;
 mod containers; // DDS files written
 mod level; // a level unpacked
 mod sizes; // the sizes of a host's buffers
+mod version; // the version of the exports
 
 pub use containers::crunch_dds_bytes;
 pub use containers::crunch_write_dds_parts;
@@ -24,6 +25,7 @@ pub use level::crunch_unpack_levels_parts;
 pub use sizes::PaletteWords;
 pub use sizes::crunch_level_sizes;
 pub use sizes::crunch_palette_words;
+pub use version::crunch_abi_version;
 
 // The header of a file, by which a host sizes the palettes' buffers: refusal 1, 2 or 3 of opening, or 0.
 #[no_mangle]
