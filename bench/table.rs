@@ -2,7 +2,7 @@
 // folder with the files of bench/files.py.
 include!("the_rust.rs");
 include!("measure.rs");
-use crunch_proved::Crn;
+use crunch_proved::{Buffers, Crn, Limits};
 use std::hint::black_box;
 
 const KINDS: [(&str, u32); 4] = [("DXT1", 8), ("DXT5", 16), ("DXT5A", 8), ("DXN", 16)];
@@ -40,10 +40,10 @@ fn proved_file(file: &[u8]) {
 fn compare(name: &str, file: &[u8], bytes: u32) {
     let (mut r, crn) = (rust(file), Crn::open(file).expect("a file is refused"));
     let levels = crn.unpack_levels(0).expect("a level is refused");
-    for (level, blocks) in (0..).zip(levels.each()) {
+    for (level, blocks) in (0..).zip(&levels) {
         let ours = crn.unpack_level(level).expect("a level is refused");
         let rust = rust_level(&mut r, (crn.width(), crn.height()), level, bytes);
-        assert!(ours.blocks == rust && blocks == rust, "{name}, level {level}: other blocks");
+        assert!(ours.blocks() == rust && blocks == rust, "{name}, level {level}: other blocks");
     }
 }
 
@@ -76,7 +76,14 @@ fn main() {
             rust_file(&file, (side(12), side(14)), file[16] as u32, *bytes);
         }
     };
-    let proved_folder = || small.iter().for_each(|(path, _)| proved_file(&std::fs::read(path).unwrap()));
+    let (mut buffers, mut blocks) = (Buffers::new(), Vec::new());
+    let mut proved_folder = || {
+        for (path, _) in &small {
+            let crn = Crn::read_with(std::fs::File::open(path).unwrap(), &Limits::default(), &mut buffers).expect("a file is refused");
+            black_box(crn.unpack_levels_into(0, &mut blocks).expect("a level is refused"));
+            black_box(&blocks);
+        }
+    };
     table.row("folder", "folder | all four | 1,000 files", rust_folder, proved_folder);
     table.end();
 }

@@ -1,4 +1,4 @@
-/* What the archive gives through include/crunch.h, for rust/tests/readme.rs to compare. */
+/* What the archive gives through include/crunch.h, for rust/tests/c.rs to compare. */
 #include <crunch.h>
 #include <inttypes.h>
 #include <stdio.h>
@@ -7,6 +7,10 @@ static uint8_t file[1 << 16], blocks[1 << 16];
 static uint32_t ce[8192], cs[8192];
 static uint16_t ae[8192], al[3 * 8192];
 static struct crunch_record record;
+
+/* all that the palettes' buffers have; a part of it, as a file needs */
+#define ALL ce, 8192, cs, 8192, ae, 8192, al, 3 * 8192
+#define PART ce, w.color_endpoints, cs, w.color_selectors, ae, w.alpha_endpoints, al, w.alpha_selectors
 
 static size_t sample(const char *name)
 {
@@ -29,12 +33,11 @@ static void told(const char *name)
     size_t size = sample(name);
     struct crunch_looked looked = crunch_look(file, size);
     struct crunch_header h = looked.header;
-    struct crunch_palette_words w = crunch_palette_words(h);
-    struct crunch_opened o = crunch_open(&record, file, size, ce, w.color_endpoints, cs, w.color_selectors, ae, w.alpha_endpoints, al, w.alpha_selectors);
-    struct crunch_level_sizes s = crunch_level_sizes(record.header, 1);
+    struct crunch_words w = crunch_palette_words(h);
+    struct crunch_opened o = crunch_open(&record, file, size, PART);
+    struct crunch_sizes s = crunch_level_sizes(record.header, 1);
     uint64_t budget = s.symbols;
-    struct crunch_answer a = crunch_unpack_level(&record, file, size, ce, w.color_endpoints, cs, w.color_selectors, ae, w.alpha_endpoints, al, w.alpha_selectors,
-                                                 1, s.pitch, s.distance, &budget, blocks, s.bytes);
+    struct crunch_answer a = crunch_unpack_level(&record, file, size, PART, 1, s.pitch, s.distance, &budget, blocks, s.bytes);
     uint64_t hash = hash_of(blocks, s.bytes);
     printf("%s %u %u %u %u %u %u\n", name, h.width, h.height, h.levels, h.faces, h.format, h.level_offsets[1]);
     printf("words %zu %zu %zu %zu\n", w.color_endpoints, w.color_selectors, w.alpha_endpoints, w.alpha_selectors);
@@ -46,8 +49,7 @@ static void told(const char *name)
     for (uint32_t level = 1; level < h.levels; level++)
         bytes += crunch_level_sizes(record.header, level).bytes;
     budget = 1 << 20;
-    struct crunch_several all = crunch_unpack_levels(&record, file, size, ce, w.color_endpoints, cs, w.color_selectors, ae, w.alpha_endpoints, al, w.alpha_selectors,
-                                                     1, &budget, blocks, bytes);
+    struct crunch_several all = crunch_unpack_levels(&record, file, size, PART, 1, &budget, blocks, bytes);
     hash = hash_of(blocks, bytes);
     printf("levels %u %zu %u %" PRIu64 " %" PRIu64 " %" PRIu64 "\n", all.refusal, all.at, all.levels, all.symbols, all.cutouts, hash);
 }
@@ -64,21 +66,20 @@ static void without_budget(const char *name)
 {
     size_t size = sample(name), len = 4096;
     uint64_t budget = 0;
-    crunch_open(&record, file, size, ce, 8192, cs, 8192, ae, 8192, al, 3 * 8192);
-    struct crunch_level_sizes s = crunch_level_sizes(record.header, 1);
+    crunch_open(&record, file, size, ALL);
+    struct crunch_sizes s = crunch_level_sizes(record.header, 1);
     size_t pitch = s.pitch + 24, distance = s.rows * pitch + 12;
     const uint32_t asked[] = {1, 13};
     for (int i = 0; i < 2; i++) {
         uint32_t level = asked[i];
         pattern(len);
-        struct crunch_answer a =
-            crunch_unpack_level(&record, file, size, ce, 8192, cs, 8192, ae, 8192, al, 3 * 8192, level, pitch, distance, &budget, blocks, len);
-        printf("level %u %zu %" PRIu64 " %" PRIu64 " %" PRIu64 " %" PRIu64 "\n", a.refusal, a.at, a.symbols, a.cutouts, budget, hash_of(blocks, len));
+        struct crunch_answer a = crunch_unpack_level(&record, file, size, ALL, level, pitch, distance, &budget, blocks, len);
+        printf("level %u %zu %" PRIu64 " %" PRIu64 " %" PRIu64 " %" PRIu64 "\n", a.refusal, a.at, a.symbols, a.cutouts, budget,
+               hash_of(blocks, len));
         pattern(len);
-        struct crunch_several all =
-            crunch_unpack_levels(&record, file, size, ce, 8192, cs, 8192, ae, 8192, al, 3 * 8192, level, &budget, blocks, len);
-        printf("levels %u %zu %u %" PRIu64 " %" PRIu64 " %" PRIu64 " %" PRIu64 "\n", all.refusal, all.at, all.levels, all.symbols, all.cutouts,
-               budget, hash_of(blocks, len));
+        struct crunch_several all = crunch_unpack_levels(&record, file, size, ALL, level, &budget, blocks, len);
+        printf("levels %u %zu %u %" PRIu64 " %" PRIu64 " %" PRIu64 " %" PRIu64 "\n", all.refusal, all.at, all.levels, all.symbols,
+               all.cutouts, budget, hash_of(blocks, len));
     }
 }
 
@@ -87,7 +88,7 @@ static void written(size_t len)
     struct crunch_needed n = crunch_dds_bytes(record.header);
     size_t size = record.header.data_size;
     pattern(sizeof blocks);
-    struct crunch_written w = crunch_write_dds(&record, file, size, ce, 8192, cs, 8192, ae, 8192, al, 3 * 8192, blocks, len);
+    struct crunch_written w = crunch_write_dds(&record, file, size, ALL, blocks, len);
     printf("dds %u %zu %u %u %zu %zu %" PRIu64 " %" PRIu64 " %" PRIu64 "\n", n.refusal, n.bytes, w.refusal, w.level, w.at, w.bytes,
            w.symbols, w.cutouts, hash_of(blocks, 8192));
 }
@@ -96,7 +97,7 @@ static void written(size_t len)
 static void as_dds(const char *name)
 {
     size_t size = sample(name);
-    crunch_open(&record, file, size, ce, 8192, cs, 8192, ae, 8192, al, 3 * 8192);
+    crunch_open(&record, file, size, ALL);
     size_t bytes = crunch_dds_bytes(record.header).bytes;
     written(bytes + 7);
     written(bytes - 1);
@@ -112,11 +113,12 @@ int main(void)
     told("dxt5.crn");
     without_budget("cube.crn");
     as_dds("dxt5.crn");
-    struct crunch_opened none = crunch_open(&record, file, 73, ce, 8192, cs, 8192, ae, 8192, al, 3 * 8192);
+    struct crunch_opened none = crunch_open(&record, file, 73, ALL);
     struct crunch_header h = crunch_look(file, sizeof file).header;
     struct crunch_header wide = h;
     wide.width = 5000;
     printf("empty %u %u %u\n", record.header.width, record.tables.color_endpoint_delta.count, record.tables.chunk_encoding.lengths[0]);
-    printf("refused %u %u %u %u\n", none.refusal, crunch_look((const uint8_t *)"", 0).refusal, crunch_level_sizes(h, 13).refusal, crunch_level_sizes(wide, 0).refusal);
+    printf("refused %u %u %u %u\n", none.refusal, crunch_look((const uint8_t *)"", 0).refusal, crunch_level_sizes(h, 13).refusal,
+           crunch_level_sizes(wide, 0).refusal);
     return 0;
 }

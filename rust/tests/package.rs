@@ -1,7 +1,7 @@
 //! The package's own functions.
 mod common;
 use common::{cut_level, names, of_format, pattern, root, sample, samples};
-use crunch_proved::{raw, Counts, Crn, Format, Refusal};
+use crunch_proved::{raw, Crn, Format, Kind, Refusal, Segment};
 
 /// The record that a file opens to.
 fn record_of(file: &[u8]) -> Box<raw::Record> {
@@ -12,7 +12,7 @@ fn record_of(file: &[u8]) -> Box<raw::Record> {
         alpha_endpoints: &mut vec![0; words.alpha_endpoints],
         alpha_selectors: &mut vec![0; words.alpha_selectors],
     };
-    assert_eq!(raw::open(file, &mut lent, &mut record), raw::Opened { refusal: 0, at: 0 });
+    assert_eq!(raw::open(file, &mut lent, &mut record), raw::Opened::default());
     record
 }
 
@@ -21,8 +21,8 @@ fn a_file_tells_its_header() {
     let file = sample("dxt5a.crn");
     let crn = Crn::open(&file).unwrap();
     assert_eq!((crn.width(), crn.height(), crn.levels(), crn.faces(), crn.format()), (20, 12, 5, 1, Format::Dxt5a));
-    assert_eq!((crn.format().number(), crn.format().kind(), crn.format().name()), (9, "DXT5A", "DXT5A"));
-    assert_eq!((crn.pixels(1), crn.pixels(4), crn.pixels(5)), (Ok((10, 6)), Ok((1, 1)), Err(Refusal::Level)));
+    assert_eq!((crn.format().number(), crn.format().kind(), crn.format().name()), (9, Kind::Bc4, "DXT5A"));
+    assert_eq!((crn.pixels(1), crn.pixels(4), crn.pixels(5).unwrap_err().refusal), (Ok((10, 6)), Ok((1, 1)), Refusal::Level));
     let palettes = crn.palettes();
     let lens = [palettes.color_endpoints.len(), palettes.color_selectors.len(), palettes.alpha_endpoints.len(), palettes.alpha_selectors.len()];
     assert_eq!(lens, [0, 0, 25, 75]);
@@ -34,40 +34,31 @@ fn sizes_are_those_of_the_format() {
     let file = sample("cube.crn");
     let sizes = Crn::open(&file).unwrap().level_sizes(0).unwrap();
     // six faces of two by two chunks: eight symbols a chunk, and one for every three chunks
-    let asked = raw::LevelSizes { refusal: 0, columns: 4, rows: 4, block_bytes: 8, pitch: 32, distance: 128, bytes: 768, symbols: 8 * 24 + 8 };
-    assert_eq!(sizes, asked);
+    assert_eq!(told(&sizes), (0, [4, 4, 8, 32, 128, 768], 8 * 24 + 8));
     let mut header = *Crn::open(&file).unwrap().header();
     header.width = 5000;
-    let none = raw::LevelSizes { refusal: 2, columns: 0, rows: 0, block_bytes: 0, pitch: 0, distance: 0, bytes: 0, symbols: 0 };
-    assert_eq!(raw::level_sizes(&header, 0), none);
+    assert_eq!(told(&raw::level_sizes(&header, 0)), (2, [0; 6], 0));
+}
+
+/// The refusal, the sizes, and the symbols.
+fn told(s: &raw::LevelSizes) -> (u32, [usize; 6], u64) {
+    (s.refusal, [s.columns, s.rows, s.block_bytes, s.pitch, s.distance, s.bytes], s.symbols)
 }
 
 /// The archive's structs are laid out as the package's: a header, and the sizes by it, of numbers that are all different.
 #[test]
 fn each_number_of_a_header_and_of_sizes_is_in_its_place() {
-    let part = |n: u32| raw::Part { offset: 0x10203 * n, size: 0x30201 * n, count: 1000 + n };
-    let header = raw::Header {
-        header_size: 122,
-        header_crc16: 0xABCD,
-        data_size: 140,
-        data_crc16: 0xBCDE,
-        width: 1000,
-        height: 500,
-        levels: 13,
-        faces: 6,
-        format: 2,
-        flags: 0x1234,
-        reserved: 0x23456789,
-        userdata0: 0x3456789A,
-        userdata1: 0x456789AB,
-        color_endpoints: part(1),
-        color_selectors: part(2),
-        alpha_endpoints: part(3),
-        alpha_selectors: part(4),
-        tables_size: 0x5678,
-        tables_offset: 0x6789AB,
-        level_offsets: std::array::from_fn(|i| 0x789ABC00 + i as u32),
-    };
+    let mut header = raw::Header::default();
+    let h = &mut header;
+    (h.header_size, h.header_crc16, h.data_size, h.data_crc16) = (122, 0xABCD, 140, 0xBCDE);
+    (h.width, h.height, h.levels, h.faces, h.format) = (1000, 500, 13, 6, 2);
+    (h.flags, h.reserved, h.userdata0, h.userdata1) = (0x1234, 0x23456789, 0x3456789A, 0x456789AB);
+    (h.tables_size, h.tables_offset) = (0x5678, 0x6789AB);
+    h.level_offsets = std::array::from_fn(|i| 0x789ABC00 + i as u32);
+    let parts = [&mut h.color_endpoints, &mut h.color_selectors, &mut h.alpha_endpoints, &mut h.alpha_selectors];
+    for (n, part) in (1..).zip(parts) {
+        (part.offset, part.size, part.count) = (0x10203 * n, 0x30201 * n, 1000 + n);
+    }
     let (h, mut file) = (&header, b"Hx".to_vec());
     // the width of each field in bytes
     let mut fields = vec![(2, h.header_size), (2, h.header_crc16), (4, h.data_size), (2, h.data_crc16), (2, h.width), (2, h.height)];
@@ -78,17 +69,18 @@ fn each_number_of_a_header_and_of_sizes_is_in_its_place() {
     fields.extend(h.level_offsets.map(|offset| (4, offset)));
     fields.iter().for_each(|(bytes, number)| file.extend(&number.to_be_bytes()[4 - bytes..]));
     file.resize(140, 0);
-    assert_eq!(raw::look(&file), raw::Looked { refusal: 0, header });
-    let words = raw::PaletteWords { color_endpoints: 1001, color_selectors: 1002, alpha_endpoints: 1003, alpha_selectors: 3 * 1004 };
-    assert_eq!(raw::palette_words(h), words);
+    assert_eq!((raw::look(&file).refusal, raw::look(&file).header, raw::Header::read(&file)), (0, header, Some(header)));
+    let words = raw::palette_words(h);
+    assert_eq!([words.color_endpoints, words.color_selectors, words.alpha_endpoints, words.alpha_selectors], [1001, 1002, 1003, 3 * 1004]);
     // 125 by 63 chunks of six faces: sixteen symbols a chunk, and one for every three chunks
     let (columns, rows, pitch, symbols) = (250, 125, 250 * 16, 16 * 6 * 125 * 63 + 2 * 125 * 63);
-    let sizes = raw::LevelSizes { refusal: 0, columns, rows, block_bytes: 16, pitch, distance: 125 * pitch, bytes: 6 * 125 * pitch, symbols };
-    assert_eq!(raw::level_sizes(h, 0), sizes);
+    assert_eq!(told(&raw::level_sizes(h, 0)), (0, [columns, rows, 16, pitch, 125 * pitch, 6 * 125 * pitch], symbols));
     let blocks = |side: u32, level: u32| (side >> level).max(1).div_ceil(4) as usize;
     let face: usize = (0..13).map(|level| blocks(1000, level) * blocks(500, level) * 16).sum();
-    assert_eq!(raw::dds_bytes(h), raw::Needed { refusal: 0, bytes: 128 + 6 * face });
-    assert_eq!(raw::dds_bytes(&raw::Header { faces: 5, ..header }), raw::Needed { refusal: 2, bytes: 0 });
+    let needed = |header: &raw::Header| (raw::dds_bytes(header).refusal, raw::dds_bytes(header).bytes);
+    assert_eq!(needed(h), (0, 128 + 6 * face));
+    header.faces = 5;
+    assert_eq!(needed(&header), (2, 0));
 }
 
 #[test]
@@ -99,28 +91,82 @@ fn every_refusal_of_a_call_has_its_number_and_its_sentence() {
     let (p, d, n) = (sizes.pitch, sizes.distance, sizes.bytes);
     let call = |level: u32, pitch: usize, distance: usize, mut budget: u64, len: usize| {
         let mut dst = vec![7; len];
-        let refusal = crn.unpack_level_into(level, pitch, distance, &mut budget, &mut dst).unwrap_err();
-        assert!(dst.iter().all(|b| *b == if matches!(refusal, Refusal::Budget { .. }) { 0 } else { 7 }));
-        refusal
+        let no = crn.unpack_level_into(level, pitch, distance, &mut budget, &mut dst).unwrap_err();
+        assert!(dst.iter().all(|b| *b == if no.refusal == Refusal::Budget { 0 } else { 7 }));
+        assert_eq!((no.level, no.reason), (Some(level), None));
+        no
     };
-    assert_eq!(call(7, p, d, 9999, n), Refusal::Level);
-    assert_eq!(call(0, p + 1, d, 9999, n), Refusal::Pitch);
-    assert_eq!(call(0, p, d - 4, 9999, n), Refusal::Pitch);
-    assert_eq!(call(0, p, d, 9999, n - 1), Refusal::Destination);
-    assert_eq!(call(0, p, d, 0, n), Refusal::Budget { bit: 0 });
+    assert_eq!(call(7, p, d, 9999, n).refusal, Refusal::Level);
+    assert_eq!(call(0, p + 1, d, 9999, n).refusal, Refusal::Pitch);
+    assert_eq!(call(0, p, d - 4, 9999, n).refusal, Refusal::Pitch);
+    assert_eq!(call(0, p, d, 9999, n - 1).refusal, Refusal::Destination);
+    assert_eq!(call(0, p, d, 0, n).place.map(|place| (place.segment, place.bit)), Some((Segment::Level(0), Some(0))));
     let late = call(0, p, d, 100, n);
-    assert!(matches!(late, Refusal::Budget { bit } if bit > 100));
-    assert_eq!(late.to_string(), format!("refused, 15: the level needs more symbols than it was allowed (at bit {})", late.bit().unwrap()));
-    let mut cut = file.clone();
-    cut.truncate(file.len() - 1);
-    assert_eq!(Crn::open(&cut).unwrap_err(), Refusal::Size);
-    assert_eq!(Crn::open(&file[..73]).unwrap_err(), Refusal::NotCrn);
-    let mut beyond = file.clone();
-    beyond[16] = 14;
-    assert_eq!(Crn::open(&beyond).unwrap_err().number(), 2);
-    let mut past = file.clone();
-    past[33] = 0xFF;
-    assert_eq!(Crn::open(&past).unwrap_err(), Refusal::Segment);
+    let (place, offset) = (late.place.unwrap(), crn.header().level_offsets[0] as u64);
+    assert!(late.refusal == Refusal::Budget && place.bit > Some(100) && place.offset == offset);
+    let bit = place.bit.unwrap();
+    assert_eq!((place.byte(), place.bit_of_byte()), (Some(offset + bit / 8), Some((bit % 8) as u32)));
+    let whole = "level 0: refused, 15: the level needs more symbols than it was allowed";
+    assert_eq!(late.to_string(), format!("{whole} (level 0, at byte {} of the file, bit {})", offset + bit / 8, bit % 8));
+}
+
+/// What a refusal of an opening names: `change` spoils a file, and the sentence ends in these words.
+#[test]
+fn a_refused_opening_names_the_field_or_the_segment() {
+    type Change = fn(&mut Vec<u8>);
+    let cases: [(u32, &str, Change); 14] = [
+        (2, "(width is 5,000, and may be 1 to 4,096)", |file| file[12..14].copy_from_slice(&5000u16.to_be_bytes())),
+        (2, "(height is 0, and may be 1 to 4,096)", |file| file[14..16].fill(0)),
+        (2, "(levels is 14, and may be 1 to 13)", |file| file[16] = 14),
+        (2, "(faces is 3, and may be 1 or 6)", |file| file[17] = 3),
+        (2, "(format is 1, and may be 0 or 2 to 9)", |file| file[18] = 1),
+        (2, "(color_selectors.count is 8,193, and may be 1 to 8,192)", |file| file[47..49].copy_from_slice(&8193u16.to_be_bytes())),
+        (2, "(alpha_endpoints.count is 0, and may be 1 to 8,192)", |file| file[55..57].fill(0)),
+        (3, "its header size or data size does not fit the file (header_size is 70, and may be 94 to 1,005)", |file| file[3] = 70),
+        (3, "(data_size is 1,005, and may be 0 to 1,004)", |file| _ = file.pop()),
+        (4, "(alpha selectors, 0 bytes from byte 0 of the file on)", |file| file[57..63].fill(0)),
+        (4, "(tables, 65,535 bytes from byte 730 of the file on)", |file| file[65..67].fill(0xFF)),
+        // the first code table of each has more symbols than a table can have
+        (6, "(tables, at byte 730 of the file, bit 0)", |file| spoil(file, 67)),
+        (6, "(colour endpoints, at byte 94 of the file, bit 0)", |file| spoil(file, 33)),
+        (6, "(alpha endpoints, at byte 381 of the file, bit 0)", |file| spoil(file, 49)),
+    ];
+    for (number, words, change) in cases {
+        let mut file = sample("dxt5.crn");
+        change(&mut file);
+        let no = Crn::open(&file).unwrap_err();
+        assert!(no.number() == number && no.to_string().ends_with(words), "{no}");
+    }
+    assert_eq!(Crn::open(&sample("dxt5.crn")[..73]).unwrap_err().to_string(), Refusal::NotCrn.to_string());
+}
+
+/// Spoils the segment whose offset stands at a place of the header.
+fn spoil(file: &mut [u8], at: usize) {
+    let offset = u32::from_be_bytes([0, file[at], file[at + 1], file[at + 2]]) as usize;
+    file[offset..offset + 2].fill(0xFF);
+}
+
+/// Whatever bit of a stream is turned over, a refusal names the segment that it is in: those before it are read as before.
+#[test]
+fn a_refused_stream_is_named() {
+    let whole = sample("dxt5.crn");
+    let h = raw::look(&whole).header;
+    let mut ends = vec![(Segment::Tables, h.tables_offset, h.tables_size)];
+    ends.extend([(Segment::ColorEndpoints, h.color_endpoints), (Segment::ColorSelectors, h.color_selectors)].map(|(s, p)| (s, p.offset, p.size)));
+    ends.extend([(Segment::AlphaEndpoints, h.alpha_endpoints), (Segment::AlphaSelectors, h.alpha_selectors)].map(|(s, p)| (s, p.offset, p.size)));
+    for (segment, offset, size) in ends {
+        let mut refused = 0;
+        for bit in 0..8 * size as usize {
+            let mut file = whole.clone();
+            file[offset as usize + bit / 8] ^= 0x80 >> (bit % 8);
+            if let Err(no) = Crn::open(&file) {
+                let place = no.place.unwrap();
+                assert_eq!((place.segment, place.offset, place.size), (segment, offset as u64, size as u64), "bit {bit}: {no}");
+                refused += 1;
+            }
+        }
+        assert!(refused > 20, "{segment}: {refused}");
+    }
 }
 
 #[test]
@@ -130,14 +176,21 @@ fn levels_of_one_call_are_those_of_one_each() {
         let crn = Crn::open(&file).unwrap();
         for first in 0..crn.levels() {
             let (levels, single) = (crn.unpack_levels(first).unwrap(), (first..crn.levels()).map(|n| crn.unpack_level(n).unwrap()).collect::<Vec<_>>());
-            assert!(levels.each().eq(single.iter().map(|level| &level.blocks[..])), "{name} {first}");
-            assert!(levels.sizes.iter().map(|s| (s.columns, s.rows)).eq(single.iter().map(|level| (level.columns, level.rows))));
-            let sums = single.iter().fold((0, 0), |(s, c), level| (s + level.counts.symbols, c + level.counts.cutouts));
-            assert_eq!((levels.counts.symbols, levels.counts.cutouts), sums);
+            assert!(levels.iter().eq(single.iter().map(|level| level.blocks())), "{name} {first}");
+            assert!(levels.sizes().iter().map(|s| (s.columns, s.rows)).eq(single.iter().map(|level| (level.columns(), level.rows()))));
+            let sums = single.iter().fold((0, 0), |(s, c), level| (s + level.counts().symbols, c + level.counts().cutouts));
+            assert_eq!((levels.counts().symbols, levels.counts().cutouts), sums);
         }
-        assert_eq!(crn.unpack_levels(crn.levels()), Err(Refusal::Level));
-        assert_eq!(crn.unpack_levels(u32::MAX), Err(Refusal::Level));
+        for first in [crn.levels(), u32::MAX] {
+            let stopped = crn.unpack_levels(first).unwrap_err();
+            assert_eq!((stopped.refused.refusal, stopped.refused.level, stopped.before.is_empty()), (Refusal::Level, Some(first), true));
+        }
     }
+}
+
+/// An answer's numbers, in their order.
+fn numbers(a: &raw::Several) -> (u32, usize, u32, u64, u64) {
+    (a.refusal, a.at, a.levels, a.symbols, a.cutouts)
 }
 
 #[test]
@@ -145,25 +198,25 @@ fn a_refused_level_stops_those_after_it() {
     let file = sample("dxt1.crn");
     let crn = Crn::open(&file).unwrap();
     let (record, mut dst) = (record_of(&file), vec![7; 2048 + 512 + 128]);
-    let first = crn.unpack_level(0).unwrap();
+    let level = crn.unpack_level(0).unwrap();
+    let (first, symbols, cutouts) = (level.blocks(), level.counts().symbols, level.counts().cutouts);
     // a symbol more than the first level draws: the second is refused, its blocks are zero, and what follows is untouched
-    let mut budget = first.counts.symbols + 1;
+    let mut budget = symbols + 1;
     let answer = raw::unpack_levels(&record, &file, &crn.palettes(), 0, &mut budget, &mut dst);
-    assert_eq!((answer.refusal, answer.levels, answer.symbols, answer.cutouts, budget), (15, 1, first.counts.symbols + 1, first.counts.cutouts, 0));
-    assert!(dst[..2048] == first.blocks && dst[2048..2560].iter().all(|b| *b == 0) && dst[2560..].iter().all(|b| *b == 7));
+    assert_eq!((answer.refusal, answer.levels, answer.symbols, answer.cutouts, budget), (15, 1, symbols + 1, cutouts, 0));
+    assert!(dst[..2048] == *first && dst[2048..2560].iter().all(|b| *b == 0) && dst[2560..].iter().all(|b| *b == 7));
     // as many as the first level draws: nothing is left for the second, whose blocks are zero all the same
     dst.fill(7);
-    let mut budget = first.counts.symbols;
+    let mut budget = symbols;
     let answer = raw::unpack_levels(&record, &file, &crn.palettes(), 0, &mut budget, &mut dst);
-    let Counts { symbols, cutouts } = first.counts;
-    assert_eq!((answer, budget), (raw::Several { refusal: 15, at: 0, levels: 1, symbols, cutouts }, 0));
-    assert!(dst[..2048] == first.blocks && dst[2048..2560].iter().all(|b| *b == 0) && dst[2560..].iter().all(|b| *b == 7));
+    assert_eq!((numbers(&answer), budget), ((15, 0, 1, symbols, cutouts), 0));
+    assert!(dst[..2048] == *first && dst[2048..2560].iter().all(|b| *b == 0) && dst[2560..].iter().all(|b| *b == 7));
     // a destination for the first level and not for the second, which leaves it untouched
     dst.fill(7);
     let mut budget = 9999;
     let answer = raw::unpack_levels(&record, &file, &crn.palettes(), 0, &mut budget, &mut dst[..2559]);
-    assert_eq!((answer.refusal, answer.at, answer.levels, answer.symbols, budget), (12, 0, 1, first.counts.symbols, 9999 - first.counts.symbols));
-    assert!(dst[..2048] == first.blocks && dst[2048..].iter().all(|b| *b == 7));
+    assert_eq!((answer.refusal, answer.at, answer.levels, answer.symbols, budget), (12, 0, 1, symbols, 9999 - symbols));
+    assert!(dst[..2048] == *first && dst[2048..].iter().all(|b| *b == 7));
     let mut cut = record.clone();
     cut.tables.chunk_encoding.lengths[0] = 17;
     assert_eq!(raw::unpack_levels(&cut, &file, &crn.palettes(), 0, &mut budget, &mut dst).refusal, 6);
@@ -180,13 +233,14 @@ fn a_budget_of_0_leaves_the_blocks_zero_and_all_else_as_it_was() {
     let mut asked = before.clone();
     (0..6).for_each(|face| (0..sizes.rows).for_each(|row| asked[face * distance + row * pitch..][..sizes.pitch].fill(0)));
     let (mut dst, mut budget) = (before.clone(), 0);
-    assert_eq!(crn.unpack_level_into(1, pitch, distance, &mut budget, &mut dst), Err(Refusal::Budget { bit: 0 }));
+    let no = crn.unpack_level_into(1, pitch, distance, &mut budget, &mut dst).unwrap_err();
+    assert_eq!((no.refusal, no.place.unwrap().bit), (Refusal::Budget, Some(0)));
     assert!(dst == asked && budget == 0);
     // all levels in one call: the first of them, and no byte after its blocks
     let (mut asked, mut dst) = (before.clone(), before);
     asked[..sizes.bytes].fill(0);
     let answer = raw::unpack_levels(&record_of(&file), &file, &crn.palettes(), 1, &mut budget, &mut dst);
-    assert_eq!(answer, raw::Several { refusal: 15, at: 0, levels: 0, symbols: 0, cutouts: 0 });
+    assert_eq!(numbers(&answer), (15, 0, 0, 0, 0));
     assert!(dst == asked && budget == 0);
 }
 
@@ -307,7 +361,7 @@ fn a_dds_file_is_a_header_and_the_levels_blocks() {
         let (dds, bytes) = (crn.to_dds().unwrap(), crn.dds_bytes().unwrap());
         Head(&dds.bytes[..128]).check(crn.header(), letters, crn.level_sizes(0).unwrap().distance);
         assert_eq!((dds.bytes.len(), &dds.bytes[128..]), (bytes, &surfaces(&crn)[..]), "{name}");
-        assert_eq!(dds.counts, crn.unpack_levels(0).unwrap().counts);
+        assert_eq!(dds.counts, crn.unpack_levels(0).unwrap().counts());
         // into a lent buffer: what lies beyond stays
         let before = pattern(bytes + 100);
         let mut dst = before.clone();
@@ -345,8 +399,8 @@ fn a_format_without_letters_is_refused_and_nothing_is_written() {
     for (name, format) in [("dxt5.crn", 3), ("dxt5.crn", 4), ("dxt5.crn", 5), ("dxt5.crn", 6), ("dxn.crn", 8)] {
         let (file, plain) = (of_format(name, format), sample(name));
         let crn = Crn::open(&file).unwrap();
-        assert_eq!((crn.format().number(), crn.dds_bytes()), (format as u32, Err(Refusal::Format)));
-        assert!(crn.unpack_levels(0).unwrap().blocks == Crn::open(&plain).unwrap().unpack_levels(0).unwrap().blocks);
+        assert_eq!((crn.format().number(), crn.dds_bytes().unwrap_err().refusal), (format as u32, Refusal::Format));
+        assert_eq!(crn.unpack_levels(0).unwrap().blocks(), Crn::open(&plain).unwrap().unpack_levels(0).unwrap().blocks());
         let (before, no) = (pattern(4096), crn.to_dds().unwrap_err());
         assert_eq!((no.refusal, no.refusal.number(), no.level), (Refusal::Format, 16, None));
         assert!(no.to_string().starts_with("refused, 16: DDS has no letters for this file's format"));
@@ -356,7 +410,7 @@ fn a_format_without_letters_is_refused_and_nothing_is_written() {
             assert_eq!(crn.write_dds_into(&mut dst[..len]).unwrap_err(), no);
             assert!(dst == before);
         }
-        assert_eq!(raw::dds_bytes(crn.header()), raw::Needed { refusal: 16, bytes: 0 });
+        assert_eq!((raw::dds_bytes(crn.header()).refusal, raw::dds_bytes(crn.header()).bytes), (16, 0));
     }
 }
 
@@ -367,15 +421,27 @@ fn a_refused_level_leaves_no_byte_of_a_dds_file() {
     empty.copy_within(86..90, 82);
     for (file, level) in [(cut, 1), (empty, 3)] {
         let crn = Crn::open(&file).unwrap();
-        let (bytes, refusal) = (crn.dds_bytes().unwrap(), crn.unpack_level(level).unwrap_err());
+        let (bytes, refused) = (crn.dds_bytes().unwrap(), crn.unpack_level(level).unwrap_err());
         assert!((0..level).all(|before| crn.unpack_level(before).is_ok()));
         let before = pattern(bytes + 100);
         let mut dst = before.clone();
         let no = crn.write_dds_into(&mut dst).unwrap_err();
-        assert_eq!((no.refusal, no.level, no.to_string()), (refusal, Some(level), format!("level {level}: {refusal}")));
+        assert!(no == refused && no.level == Some(level) && no.to_string().starts_with(&format!("level {level}: refused, ")));
+        let stopped = crn.unpack_levels(0).unwrap_err();
+        assert_eq!((stopped.refused, stopped.before.len()), (refused, level as usize));
+        let good: Vec<u8> = (0..level).flat_map(|n| crn.unpack_level(n).unwrap().into_blocks()).collect();
+        assert_eq!(stopped.before.blocks(), good);
+        // blocks of another file are gone from a buffer that is used again
+        let mut kept = pattern(100_000);
+        assert_eq!((crn.unpack_levels_into(0, &mut kept), &kept), (Err(refused), &good));
         assert!(dst[..bytes].iter().all(|byte| *byte == 0) && dst[bytes..] == before[bytes..]);
         assert_eq!(crn.to_dds().unwrap_err(), no);
     }
+}
+
+/// An answer's numbers, in their order.
+fn written(a: &raw::Written) -> (u32, u32, usize, usize, u64, u64) {
+    (a.refusal, a.level, a.at, a.bytes, a.symbols, a.cutouts)
 }
 
 /// 2, 6, 16 and 12 are looked at in this order and leave the destination untouched. 4, 5, 7, 8, 13 and 14 are a level's: they come with its
@@ -404,7 +470,7 @@ fn what_a_refused_dds_file_leaves_goes_by_its_number() {
         spoil(&mut record, &mut palettes);
         let mut dst = before.clone();
         let answer = raw::write_dds(&record, &file, &palettes, &mut dst[..bytes - 1]);
-        assert_eq!(answer, raw::Written { refusal: number, level: 0, at: 0, bytes: 0, symbols: 0, cutouts: 0 });
+        assert_eq!(written(&answer), (number, 0, 0, 0, 0, 0));
         assert!(dst == before, "refused by {number}");
     }
     let late: [(u32, u32, Spoil); 8] = [
@@ -434,46 +500,42 @@ fn what_a_refused_dds_file_leaves_goes_by_its_number() {
         }
         let mut dst = before.clone();
         let answer = raw::write_dds(&record, &file, &palettes, &mut dst);
-        assert_eq!(answer, raw::Written { refusal: number, level, at, bytes: 0, symbols, cutouts: 0 });
+        assert_eq!(written(&answer), (number, level, at, 0, symbols, 0));
         assert!(dst[..bytes].iter().all(|byte| *byte == 0) && dst[bytes..] == before[bytes..], "refused by {number}");
     }
 }
 
 /// The largest level there is: six faces of 4,096 by 4,096 pixels, every code one bit, all of them 0.
 #[test]
-fn the_largest_level_fits_into_the_stack_of_a_thread() {
-    // half of the two megabytes that Rust gives a thread
-    let unpacked = std::thread::Builder::new().stack_size(1 << 20).spawn(|| {
-        let sample = sample("dxt1.crn");
-        let mut record = raw::Record::empty();
-        raw::open(
-            &sample,
-            &mut raw::PalettesMut { color_endpoints: &mut [0; 40], color_selectors: &mut [0; 40], alpha_endpoints: &mut [], alpha_selectors: &mut [] },
-            &mut record,
-        );
-        let header = &mut record.header;
-        (header.width, header.height, header.levels, header.faces, header.level_offsets) = (4096, 4096, 1, 6, [0; 13]);
-        let tables = &mut record.tables;
-        for table in [&mut tables.chunk_encoding, &mut tables.color_endpoint_delta, &mut tables.color_selector_delta] {
-            (table.count, table.lengths) = (1, [0; 8192]);
-            table.lengths[0] = 1;
-        }
-        let sizes = raw::level_sizes(&record.header, 0);
-        let chunks = 6 * 512 * 512;
-        assert_eq!((sizes.bytes, sizes.symbols), (6 * 1024 * 1024 * 8, 8 * chunks + chunks / 3));
-        // a chunk of one tile takes an endpoint and four selectors
-        let symbols = 5 * chunks + chunks / 3;
-        let (file, mut dst, mut budget) = (vec![0; symbols.div_ceil(8) as usize], vec![1; 128 + sizes.bytes], sizes.symbols);
-        let palettes = raw::Palettes { color_endpoints: &[7; 40], color_selectors: &[9; 40], alpha_endpoints: &[], alpha_selectors: &[] };
-        let answer = raw::unpack_level(&record, &file, &palettes, 0, sizes.pitch, sizes.distance, &mut budget, &mut dst);
-        assert_eq!(answer, raw::Answer { refusal: 0, at: 0, symbols, cutouts: 0 });
-        let all_there = |blocks: &[u8]| blocks.chunks(8).all(|block| block == [7, 0, 0, 0, 9, 0, 0, 0]);
-        assert!(all_there(&dst[..sizes.bytes]));
-        let answer = raw::write_dds(&record, &file, &palettes, &mut dst);
-        assert_eq!(answer, raw::Written { refusal: 0, level: 0, at: 0, bytes: dst.len(), symbols, cutouts: 0 });
-        assert!(all_there(&dst[128..]));
-    });
-    unpacked.unwrap().join().unwrap();
+fn the_largest_level_is_unpacked_whole() {
+    let sample = sample("dxt1.crn");
+    let mut record = raw::Record::empty();
+    raw::open(
+        &sample,
+        &mut raw::PalettesMut { color_endpoints: &mut [0; 40], color_selectors: &mut [0; 40], alpha_endpoints: &mut [], alpha_selectors: &mut [] },
+        &mut record,
+    );
+    let header = &mut record.header;
+    (header.width, header.height, header.levels, header.faces, header.level_offsets) = (4096, 4096, 1, 6, [0; 13]);
+    let tables = &mut record.tables;
+    for table in [&mut tables.chunk_encoding, &mut tables.color_endpoint_delta, &mut tables.color_selector_delta] {
+        (table.count, table.lengths) = (1, [0; 8192]);
+        table.lengths[0] = 1;
+    }
+    let sizes = raw::level_sizes(&record.header, 0);
+    let chunks = 6 * 512 * 512;
+    assert_eq!((sizes.bytes, sizes.symbols), (6 * 1024 * 1024 * 8, 8 * chunks + chunks / 3));
+    // a chunk of one tile takes an endpoint and four selectors
+    let symbols = 5 * chunks + chunks / 3;
+    let (file, mut dst, mut budget) = (vec![0; symbols.div_ceil(8) as usize], vec![1; 128 + sizes.bytes], sizes.symbols);
+    let palettes = raw::Palettes { color_endpoints: &[7; 40], color_selectors: &[9; 40], alpha_endpoints: &[], alpha_selectors: &[] };
+    let answer = raw::unpack_level(&record, &file, &palettes, 0, sizes.pitch, sizes.distance, &mut budget, &mut dst);
+    assert_eq!((answer.refusal, answer.at, answer.symbols, answer.cutouts), (0, 0, symbols, 0));
+    let all_there = |blocks: &[u8]| blocks.chunks(8).all(|block| block == [7, 0, 0, 0, 9, 0, 0, 0]);
+    assert!(all_there(&dst[..sizes.bytes]));
+    let answer = raw::write_dds(&record, &file, &palettes, &mut dst);
+    assert_eq!(written(&answer), (0, 0, 0, dst.len(), symbols, 0));
+    assert!(all_there(&dst[128..]));
 }
 
 #[test]

@@ -1,10 +1,10 @@
 //! `crn-fuzz [--seed S] (--rounds N | MINUTES) FILE..`: damaged files and wild arguments for the package's functions, with guards around every buffer. What a call may
-//! answer and leave is held to the promises: see `opened`, `unpacked` and `written`. It ends at the first broken one, with the seed of the
+//! answer and leave is held to the promises: see `opened`, `told`, `level_told`, `unpacked` and `written`. It ends at the first broken one, with the seed of the
 //! round that broke it.
 #![forbid(unsafe_code)]
 
-use crunch_proved::raw::{self, Palettes, PalettesMut, Record};
-use crunch_proved::Crn;
+use crunch_proved::raw::{self, Opened, Palettes, PalettesMut, Record};
+use crunch_proved::{Buffers, Crn, Header, Limits, NotRead};
 use std::time::{Duration, Instant};
 
 /// Marsaglia's xorshift, of 64 bits.
@@ -144,7 +144,7 @@ fn used() -> Box<Record> {
 
 /// A file opened. Refused by 1 to 5 it leaves the buffers untouched, by 6 to 9 zero, and by all an empty record; accepted, it leaves what lies beyond each palette
 /// untouched.
-fn opened(file: &[u8], near: bool, dice: &mut Dice, tally: &mut Tally) -> (u32, Box<Record>, Lent) {
+fn opened(file: &[u8], near: bool, dice: &mut Dice, tally: &mut Tally) -> (Opened, Box<Record>, Lent) {
     let looked = raw::look(file);
     let words = raw::palette_words(&looked.header);
     let mut len = |n: usize| if near { (dice.wild(n as u64) as usize).min(30_000) } else { n };
@@ -172,7 +172,7 @@ fn opened(file: &[u8], near: bool, dice: &mut Dice, tally: &mut Tally) -> (u32, 
     }
     assert!(o.refusal == 0 || record == Record::empty(), "refused by {}, and the record is not empty", o.refusal);
     assert!(near || o.refusal != 5, "palettes of the words that were told are too short");
-    (o.refusal, record, lent)
+    (o, record, lent)
 }
 
 /// A level unpacked. Its symbols are taken off the budget. Refused before its first draw it leaves the destination untouched, refused later it leaves its blocks zero;
@@ -278,7 +278,8 @@ fn written(record: &Record, file: &[u8], lent: &Lent, dice: &mut Dice, tally: &m
         _ if len < needed.bytes => 12,
         _ => 0,
     };
-    let mut asked = raw::Written { refusal: early, level: 0, at: 0, bytes: 0, symbols: 0, cutouts: 0 };
+    let mut asked = raw::Written::default();
+    asked.refusal = early;
     if early != 0 {
         assert_eq!(answer, asked, "before any level");
         assert!(dst.held() == before, "refused by {early} before any level, and something was written");
@@ -291,7 +292,7 @@ fn written(record: &Record, file: &[u8], lent: &Lent, dice: &mut Dice, tally: &m
         let one = raw::unpack_level(record, file, &lent.read(), level, sizes.pitch, sizes.distance, &mut budget, &mut blocks);
         asked.symbols += one.symbols;
         if one.refusal != 0 {
-            asked = raw::Written { refusal: one.refusal, level, at: one.at, cutouts: 0, ..asked };
+            (asked.refusal, asked.level, asked.at, asked.cutouts) = (one.refusal, level, one.at, 0);
             break;
         }
         asked.cutouts += one.cutouts;
@@ -309,6 +310,41 @@ fn written(record: &Record, file: &[u8], lent: &Lent, dice: &mut Dice, tally: &m
     assert_eq!(answer, asked, "a DDS file and its levels part ways");
     assert!(dst.held()[..whole.len()] == whole, "refused by {}, and the file's bytes are others", asked.refusal);
     assert!(dst.held()[whole.len()..] == before[whole.len()..], "a byte beyond the file was written");
+}
+
+/// A file by the package: what it opens to, and what it says of a refusal.
+fn told(file: &[u8], refusal: u32, at: usize, buffers: &mut Buffers) {
+    let fields = Header::read(file);
+    assert_eq!(fields.is_none(), refusal == 1, "a header that is read and refused by 1, or neither");
+    match Crn::read_with(file, &Limits::default(), buffers) {
+        Ok(crn) => {
+            assert_eq!((refusal, fields), (0, Some(*crn.header())), "the header is read otherwise");
+            assert_eq!(crn.file(), file);
+        }
+        Err(NotRead::Refused(no)) => {
+            assert_eq!((no.number(), no.level), (refusal, None), "Crn::read_with and open part ways");
+            assert_eq!(no.reason.is_some(), matches!(refusal, 2 | 3), "{no}");
+            assert_eq!(no.place.is_some(), matches!(refusal, 4 | 6..=9), "{no}");
+            assert_eq!(no.place.and_then(|place| place.bit), matches!(refusal, 6..=9).then_some(at as u64), "{no}");
+            assert!(no.reason.is_none_or(|r| r.value < r.least || r.value > r.most || ["faces", "format"].contains(&r.field)), "{no}");
+        }
+        Err(other) => panic!("{other}"),
+    }
+}
+
+/// A level by the package: as by a destination of its whole size.
+fn level_told(crn: &Crn, level: u32) {
+    let sizes = crn.level_sizes(level);
+    let made = crn.unpack_level(level);
+    let Ok(sizes) = sizes else {
+        assert_eq!(made.err(), sizes.err(), "a level without sizes was unpacked");
+        return;
+    };
+    let (mut whole, mut budget) = (vec![0xA5; sizes.bytes], sizes.symbols);
+    match crn.unpack_level_into(level, sizes.pitch, sizes.distance, &mut budget, &mut whole) {
+        Ok(counts) => assert!(made.is_ok_and(|made| made.blocks() == whole && made.counts() == counts), "a level is other blocks"),
+        Err(no) => assert_eq!(made.err(), Some(no), "a level is refused otherwise"),
+    }
 }
 
 /// A record that nobody's file gave.
@@ -336,26 +372,27 @@ fn edited(record: &mut Record, dice: &mut Dice) {
     }
 }
 
-fn round(samples: &[Vec<u8>], seed: u64, tally: &mut Tally) {
+fn round(samples: &[Vec<u8>], seed: u64, buffers: &mut Buffers, tally: &mut Tally) {
     let dice = &mut Dice::new(seed);
     let whole = &samples[dice.below(samples.len())];
     let file = damaged(whole, dice);
     let near = dice.one_in(4);
-    let (refusal, mut record, mut lent) = opened(&file, near, dice, tally);
-    let crn = Crn::open(&file);
-    assert!(near || crn.as_ref().map_or_else(|refusal| refusal.number(), |_| 0) == refusal, "Crn::open and open part ways");
-    if let Ok(crn) = crn {
-        let level = dice.below(20) as u32;
-        let sized = crn.level_sizes(level).map(|sizes| sizes.bytes);
-        let made = crn.unpack_level(level);
-        assert!(sized.is_ok() || made.as_ref().err() == sized.as_ref().err(), "a level without sizes was unpacked");
-        assert!(made.is_err() || made.map(|level| level.blocks.len()) == sized, "a level is longer or shorter than its sizes");
-        if crn.dds_bytes().is_ok_and(|bytes| bytes < 200_000) {
-            let dds = crn.to_dds().map_err(|no| no.refusal).map(|dds| dds.counts);
-            assert_eq!(dds, crn.unpack_levels(0).map(|levels| levels.counts), "a DDS file and its levels part ways");
+    let (Opened { refusal, at, .. }, mut record, mut lent) = opened(&file, near, dice, tally);
+    if !near {
+        told(&file, refusal, at, buffers);
+    }
+    if let Ok(crn) = Crn::open_with(&file, buffers) {
+        level_told(&crn, dice.below(20) as u32);
+        if crn.dds_bytes().is_ok() {
+            let levels = crn.unpack_levels(0);
+            assert_eq!(
+                crn.to_dds().map(|dds| dds.counts),
+                levels.map(|levels| levels.counts()).map_err(|no| no.refused),
+                "a DDS file and its levels part ways"
+            );
         }
     }
-    if refusal != 0 {
+    if refusal > 0 {
         // the whole file's record, beside the damaged file
         (_, record, lent) = opened(whole, false, dice, tally);
     }
@@ -389,10 +426,10 @@ fn main() {
     }
     assert!(!samples.is_empty() && (until.is_some() || rounds < u64::MAX), "{usage}");
     let first = seed.unwrap_or_else(|| std::time::UNIX_EPOCH.elapsed().map_or(1, |t| t.as_secs() << 24));
-    let (mut tally, mut n) = (Tally::default(), 0);
+    let (mut buffers, mut tally, mut n) = (Buffers::new(), Tally::default(), 0);
     while n < rounds && until.is_none_or(|end| Instant::now() < end) {
         let seed = first.wrapping_add(n);
-        if let Err(broken) = std::panic::catch_unwind(std::panic::AssertUnwindSafe(|| round(&samples, seed, &mut tally))) {
+        if let Err(broken) = std::panic::catch_unwind(std::panic::AssertUnwindSafe(|| round(&samples, seed, &mut buffers, &mut tally))) {
             eprintln!("crn-fuzz: a promise is broken; `crn-fuzz --seed {seed} --rounds 1` with the same files shows it");
             std::panic::resume_unwind(broken);
         }

@@ -75,3 +75,28 @@ pub fn shown(command: &str) -> String {
     let after = readme.split_once(&format!("$ {command}\n")).unwrap_or_else(|| panic!("README shows no `{command}`")).1;
     after.split("```").next().unwrap().split("\n$ ").next().unwrap().trim_end().to_string() + "\n"
 }
+
+/// The archive that this package is linked with.
+pub fn archive() -> PathBuf {
+    Path::new(env!("OUT_DIR")).join("libcrunch_abi.a")
+}
+
+/// `cc`, or `c++` for a standard of C++, over include/, where every warning is an error.
+pub fn compiler(standard: &str) -> Command {
+    let mut command = Command::new(if standard.starts_with("c++") { "c++" } else { "cc" });
+    command.args(["-O2", "-Wall", "-Wextra", "-Werror", "-pedantic", "-I"]).arg(root("include")).arg(format!("-std={standard}"));
+    command
+}
+
+/// Compiles a program of C or C++ over the archive.
+pub fn compiled(standard: &str, source: &Path, room: &Path) -> PathBuf {
+    let made = room.join("program");
+    let said = compiler(standard).arg(source).arg(archive()).args(["-pthread", "-o"]).arg(&made).output().unwrap();
+    assert_eq!(told(said), (0, String::new(), String::new()), "{}", source.display());
+    made
+}
+
+/// What a C program over the archive says, run in the repository's folder.
+pub fn c(source: &Path, room: &Path) -> (i32, String, String) {
+    told(Command::new(compiled("c11", source, room)).current_dir(root("")).output().unwrap())
+}

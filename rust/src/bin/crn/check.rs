@@ -1,11 +1,14 @@
 //! `crn check`: every level of every file.
+use crate::args::{Args, Verb};
 use crate::bar::Bar;
-use crate::{files, say, Failure};
-use crunch_proved::{Crn, Refusal};
+use crate::fault::{self, Fault};
+use crate::files::{in_order, Found, Input};
+use crate::{json, say, Failure, Status};
+use crunch_proved::Buffers;
 use std::collections::BTreeMap;
-use std::ffi::OsString;
 use std::io::Write;
-use std::path::{Path, PathBuf};
+
+pub const VERB: Verb = Verb { name: "check", usage: crate::CHECK, flags: &["--json"], values: &[], run };
 
 /// What a file holds that was accepted whole.
 struct Accepted {
@@ -18,31 +21,24 @@ struct Accepted {
     cutouts: u64,
 }
 
-/// Why a file was not: a refusal, of the file or of its first level that is refused; or it could not be read.
-enum Fault {
-    Refused(Refusal, Option<u32>),
-    Trouble(String),
+/// What a thread keeps from one file to the next: both grow to the largest file, and are not made anew.
+#[derive(Default)]
+struct Kept {
+    buffers: Buffers,
+    blocks: Vec<u8>,
 }
 
-pub fn run(words: &[OsString]) -> Result<(), Failure> {
-    let (options, names): (Vec<_>, Vec<_>) = words.iter().cloned().partition(say::option);
-    if let Some(option) = options.iter().find(|o| *o != "--json") {
-        return Err(Failure::Usage(format!("`crn check` has no option '{}'", option.display())));
-    }
-    if names.is_empty() {
-        return Err(Failure::Usage("`crn check` needs a file or a folder".into()));
-    }
-    let json = !options.is_empty();
-    let found = files::found(&names);
-    let (mut bar, mut tally) = (Bar::new(found.len()), Tally::default());
+fn run(args: Args) -> Result<Status, Failure> {
+    let lines_of_json = args.flag("--json");
+    let (mut bar, mut tally) = (Bar::new(), Tally::default());
     let mut out = std::io::BufWriter::new(std::io::stdout());
-    let work = |(path, trouble): &(PathBuf, Option<String>)| match trouble {
+    let work = |kept: &mut Kept, found: &Found| match &found.trouble {
         Some(why) => Err(Fault::Trouble(why.clone())),
-        None => whole(path),
+        None => whole(kept, &found.input),
     };
-    files::in_order(&found, work, |(path, _), answer| {
+    in_order(args.jobs()?, args.inputs()?, Kept::default, work, |found, answer| {
         tally.count(&answer);
-        let line = if json { Some(as_json(path, &answer)) } else { as_text(path, &answer) };
+        let line = if lines_of_json { Some(as_json(&found.input, &answer)) } else { as_text(&found.input, &answer) };
         if let Some(line) = line {
             bar.clear();
             writeln!(out, "{line}")?;
@@ -55,106 +51,84 @@ pub fn run(words: &[OsString]) -> Result<(), Failure> {
     })?;
     bar.clear();
     let summary = tally.summary();
-    if json {
-        eprint!("{summary}");
+    if lines_of_json {
+        out.flush()?;
+        say::aside(&summary);
     } else {
         out.write_all(summary.as_bytes())?;
+        out.flush()?;
     }
-    out.flush()?;
-    if tally.accepted == found.len() {
-        Ok(())
-    } else {
-        Err(Failure::Said)
-    }
+    Ok(tally.status())
 }
 
-fn whole(path: &Path) -> Result<Accepted, Fault> {
-    let file = files::read(path).map_err(Fault::Trouble)?;
-    let crn = Crn::open(&file).map_err(|refusal| Fault::Refused(refusal, None))?;
-    let (mut symbols, mut cutouts) = (0, 0);
-    for level in 0..crn.levels() {
-        let counts = crn.unpack_level(level).map_err(|refusal| Fault::Refused(refusal, Some(level)))?.counts;
-        symbols += counts.symbols;
-        cutouts += counts.cutouts;
-    }
-    Ok(Accepted { format: crn.format().name(), width: crn.width(), height: crn.height(), levels: crn.levels(), faces: crn.faces(), symbols, cutouts })
+fn whole(kept: &mut Kept, input: &Input) -> Result<Accepted, Fault> {
+    let crn = fault::open(input, &mut kept.buffers)?;
+    let counts = crn.unpack_levels_into(0, &mut kept.blocks)?;
+    Ok(Accepted {
+        format: crn.format().name(),
+        width: crn.width(),
+        height: crn.height(),
+        levels: crn.levels(),
+        faces: crn.faces(),
+        symbols: counts.symbols,
+        cutouts: counts.cutouts,
+    })
 }
 
 /// A line for a file that was not accepted.
-fn as_text(path: &Path, answer: &Result<Accepted, Fault>) -> Option<String> {
-    match answer {
-        Ok(_) => None,
-        Err(Fault::Refused(refusal, None)) => Some(format!("{}: {refusal}", path.display())),
-        Err(Fault::Refused(refusal, Some(level))) => Some(format!("{}: level {level}: {refusal}", path.display())),
-        Err(Fault::Trouble(why)) => Some(format!("{}: {why}", path.display())),
-    }
+fn as_text(input: &Input, answer: &Result<Accepted, Fault>) -> Option<String> {
+    answer.as_ref().err().map(|fault| format!("{}: {fault}", input.shown()))
 }
 
-fn as_json(path: &Path, answer: &Result<Accepted, Fault>) -> String {
-    let file = quoted(&path.to_string_lossy());
-    match answer {
-        Ok(a) => format!(
-            "{{\"file\":{file},\"accepted\":true,\"format\":{},\"width\":{},\"height\":{},\"levels\":{},\"faces\":{},\"symbols\":{},\"cutouts\":{}}}",
-            quoted(a.format),
-            a.width,
-            a.height,
-            a.levels,
-            a.faces,
-            a.symbols,
-            a.cutouts
-        ),
-        Err(Fault::Refused(refusal, level)) => {
-            let number = |n: Option<usize>| n.map_or("null".into(), |n| n.to_string());
-            format!(
-                "{{\"file\":{file},\"accepted\":false,\"refusal\":{},\"level\":{},\"bit\":{},\"sentence\":{}}}",
-                refusal.number(),
-                number(level.map(|l| l as usize)),
-                number(refusal.bit()),
-                quoted(refusal.sentence())
-            )
-        }
-        Err(Fault::Trouble(why)) => format!("{{\"file\":{file},\"accepted\":false,\"error\":{}}}", quoted(why)),
-    }
-}
-
-/// A text as JSON has it.
-fn quoted(text: &str) -> String {
-    let mut out = String::from("\"");
-    for c in text.chars() {
-        match c {
-            '"' | '\\' => out.extend(['\\', c]),
-            c if (c as u32) < 32 => out += &format!("\\u{:04x}", c as u32),
-            c => out.push(c),
-        }
-    }
-    out + "\""
+fn as_json(input: &Input, answer: &Result<Accepted, Fault>) -> String {
+    let told = match answer {
+        Ok(a) => json::fields(&[
+            ("format", &json::text(a.format)),
+            ("width", &a.width),
+            ("height", &a.height),
+            ("levels", &a.levels),
+            ("faces", &a.faces),
+            ("symbols", &a.symbols),
+            ("cutouts", &a.cutouts),
+        ]),
+        Err(fault) => fault.json(),
+    };
+    format!("{{{},\"accepted\":{},{told}}}", input.json(), answer.is_ok())
 }
 
 /// How many were accepted, refused by which number, and not read.
 #[derive(Default)]
 struct Tally {
-    accepted: usize,
-    refused: BTreeMap<u32, (usize, &'static str)>,
-    unread: usize,
+    accepted: u64,
+    refused: BTreeMap<u32, (u64, &'static str)>,
+    unread: u64,
 }
 
 impl Tally {
     fn count(&mut self, answer: &Result<Accepted, Fault>) {
         match answer {
             Ok(_) => self.accepted += 1,
-            Err(Fault::Refused(refusal, _)) => self.refused.entry(refusal.number()).or_insert((0, refusal.sentence())).0 += 1,
+            Err(Fault::Refused(refused)) => self.refused.entry(refused.number()).or_insert((0, refused.sentence())).0 += 1,
             Err(Fault::Trouble(_)) => self.unread += 1,
         }
     }
 
-    fn refusals(&self) -> usize {
+    fn refusals(&self) -> u64 {
         self.refused.values().map(|r| r.0).sum()
     }
 
+    fn status(&self) -> Status {
+        match (self.unread, self.refusals()) {
+            (0, 0) => Status::Done,
+            (0, _) => Status::Refused,
+            _ => Status::Trouble,
+        }
+    }
+
     fn summary(&self) -> String {
-        let n = |n: usize| say::number(n as u64);
+        let n = say::number;
         let all = self.accepted + self.refusals() + self.unread;
-        let mut out = format!("{}: {} accepted, {} refused", say::count(all as u64, "file"), n(self.accepted), n(self.refusals()));
+        let mut out = format!("{}: {} accepted, {} refused", say::count(all, "file"), n(self.accepted), n(self.refusals()));
         if self.unread > 0 {
             out += &format!(", {} not read", n(self.unread));
         }

@@ -1,77 +1,208 @@
-//! `crn info`: a table for each file.
-use crate::{files, say, Failure};
-use crunch_proved::{Crn, Refusal};
-use std::ffi::OsString;
-use std::path::Path;
+//! `crn info`: what a file's header says and what its levels hold, as tables or as JSON.
+use crate::args::{Args, Verb};
+use crate::fault::{self, Fault};
+use crate::files::{in_order, Found, Input};
+use crate::{json, say, Failure, Status};
+use crunch_proved::raw::Part;
+use crunch_proved::{Buffers, Crn, Format, Header};
+use std::fmt::Display;
 
-pub fn run(words: &[OsString]) -> Result<(), Failure> {
-    if let Some(option) = words.iter().find(|w| say::option(w)) {
-        return Err(Failure::Usage(format!("`crn info` has no option '{}'", option.display())));
-    }
-    if words.is_empty() {
-        return Err(Failure::Usage("`crn info` needs a file".into()));
-    }
-    let mut all = true;
-    for (n, word) in words.iter().enumerate() {
-        let name = word.to_string_lossy();
-        let told = files::read(Path::new(word)).and_then(|file| about(&name, &file).map_err(|refusal| refusal.to_string()));
-        match told {
-            Ok((text, whole)) => {
-                say::all(&format!("{}{text}", if n > 0 { "\n" } else { "" }))?;
-                all &= whole;
+pub const VERB: Verb = Verb { name: "info", usage: crate::INFO, flags: &["--json"], values: &[], run };
+
+/// What is told of a file: for standard output, or where there is nothing to show for standard error.
+struct Told {
+    text: Result<String, String>,
+    status: Status,
+}
+
+fn run(args: Args) -> Result<Status, Failure> {
+    let as_json = args.flag("--json");
+    let (mut status, mut any) = (Status::Done, false);
+    let work = |buffers: &mut Buffers, found: &Found| {
+        let about = About::of(found, buffers);
+        Told { text: if as_json { Ok(about.json()) } else { about.text() }, status: about.status() }
+    };
+    in_order(args.jobs()?, args.inputs()?, Buffers::new, work, |_, told| {
+        status = status.max(told.status);
+        match told.text {
+            Ok(text) => {
+                say::all(&format!("{}{text}", if any && !as_json { "\n" } else { "" }))?;
+                any = true;
             }
-            Err(why) => {
-                eprintln!("crn: {name}: {why}");
-                all = false;
-            }
+            Err(why) => say::wrong(&why),
         }
-    }
-    if all {
         Ok(())
-    } else {
-        Err(Failure::Said)
+    })?;
+    Ok(status)
+}
+
+/// What is known of a file: each part as far as it came.
+struct About<'a> {
+    input: &'a Input,
+    bytes: Option<u64>,
+    header: Option<Header>,
+    levels: Vec<Level>,
+    fault: Option<Fault>,
+}
+
+/// A level's sizes, and the symbols and cut-outs that it has; or why it has none.
+struct Level {
+    pixels: (u32, u32),
+    blocks: (usize, usize),
+    bytes: usize,
+    counts: Result<(u64, u64), Fault>,
+}
+
+impl<'a> About<'a> {
+    fn of(found: &'a Found, buffers: &mut Buffers) -> About<'a> {
+        let mut about = About { input: &found.input, bytes: None, header: None, levels: Vec::new(), fault: None };
+        about.fault = match &found.trouble {
+            Some(why) => Some(Fault::Trouble(why.clone())),
+            None => about.look(buffers).err(),
+        };
+        about
+    }
+
+    fn look(&mut self, buffers: &mut Buffers) -> Result<(), Fault> {
+        let opened;
+        (self.header, self.bytes, opened) = fault::open_with_header(self.input, buffers);
+        let crn = opened?;
+        self.bytes = Some(crn.file().len() as u64);
+        for level in 0..crn.levels() {
+            self.levels.push(Level::of(&crn, level)?);
+        }
+        Ok(())
+    }
+
+    fn status(&self) -> Status {
+        let of = |fault: &Fault| fault.status();
+        let levels = self.levels.iter().filter_map(|level| level.counts.as_ref().err());
+        levels.chain(&self.fault).map(of).max().unwrap_or(Status::Done)
+    }
+
+    /// The bytes after those that the header counts; nothing where the file is shorter or its length not known.
+    fn after(&self) -> Option<u64> {
+        self.bytes.zip(self.header).and_then(|(bytes, header)| bytes.checked_sub(header.data_size.into()))
+    }
+
+    /// The header's lines, the levels' table, and the refusal where there is one.
+    fn text(&self) -> Result<String, String> {
+        let told = |fault: &Fault| format!("{}: {fault}", self.input.shown());
+        let Some(h) = &self.header else {
+            return Err(self.fault.as_ref().map(told).unwrap_or_default());
+        };
+        let bytes = self.bytes.map_or(String::new(), |bytes| say::count(bytes, "byte") + ", ");
+        let format = Format::of(h.format).map_or_else(|| format!("format {}", h.format), |format| format.name().into());
+        let pixels = format!("{} x {} pixels", h.width, h.height);
+        let (levels, faces) = (say::count(h.levels.into(), "level"), say::count(h.faces.into(), "face"));
+        let mut out = format!("{}: {bytes}{format}, {pixels}, {levels}, {faces}\n", self.input.shown());
+        let after = self.after().map_or(String::new(), |after| format!(", {} after the data", say::count(after, "byte")));
+        let data = say::count(h.data_size.into(), "byte");
+        out += &format!(
+            "  header: {}, stored CRC {:04x}; data: {data}, stored CRC {:04x}{after}\n",
+            say::count(h.header_size.into(), "byte"),
+            h.header_crc16,
+            h.data_crc16
+        );
+        out += &format!("  flags: {:04x}; reserved: {:08x}; user data: {:08x} {:08x}\n", h.flags, h.reserved, h.userdata0, h.userdata1);
+        let there = palettes(h).into_iter().filter(|palette| palette.2.count > 0);
+        let there: Vec<String> = there.map(|(_, thing, part)| say::count(part.count.into(), thing)).collect();
+        out += &format!("  palettes: {}\n", if there.is_empty() { "none".into() } else { there.join(", ") });
+        if !self.levels.is_empty() {
+            let mut rows = vec![["level", "pixels", "blocks", "bytes", "symbols", "cut-outs"].map(String::from).to_vec()];
+            rows.extend(self.levels.iter().enumerate().map(|(n, level)| level.row(n)));
+            out += &say::table(&rows);
+        }
+        if let Some(fault) = &self.fault {
+            out += &format!("  {fault}\n");
+        }
+        Ok(out)
+    }
+
+    /// All of it, as one line.
+    fn json(&self) -> String {
+        let mut told = vec![self.input.json()];
+        told.push(json::fields(&[("accepted", &(self.status() == Status::Done)), ("bytes", &json::or_null(self.bytes))]));
+        if let Some(h) = &self.header {
+            let format = Format::of(h.format).map(|format| json::text(format.name()));
+            told.push(json::fields(&[("bytes_after_data", &json::or_null(self.after())), ("format_name", &json::or_null(format))]));
+            told.push(format!("\"header\":{}", header(h)));
+        }
+        if !self.levels.is_empty() {
+            let levels: Vec<String> = self.levels.iter().enumerate().map(|(n, level)| level.json(n)).collect();
+            told.push(format!("\"levels\":[{}]", levels.join(",")));
+        }
+        told.extend(self.fault.as_ref().map(Fault::json));
+        format!("{{{}}}\n", told.join(","))
     }
 }
 
-/// The file's table, and whether every level is accepted.
-fn about(name: &str, file: &[u8]) -> Result<(String, bool), Refusal> {
-    let crn = Crn::open(file)?;
-    let palettes = [
-        (crn.palettes().color_endpoints.len(), "colour endpoint"),
-        (crn.palettes().color_selectors.len(), "colour selector"),
-        (crn.palettes().alpha_endpoints.len(), "alpha endpoint"),
-        (crn.palettes().alpha_selectors.len() / 3, "alpha selector"),
-    ];
-    let palettes: Vec<String> = palettes.iter().filter(|p| p.0 > 0).map(|p| say::count(p.0 as u64, p.1)).collect();
-    let mut rows = vec![["level", "pixels", "blocks", "bytes", "symbols", "cut-outs"].map(String::from).to_vec()];
-    let mut all = true;
-    for level in 0..crn.levels() {
-        let ((width, height), sizes) = (crn.pixels(level)?, crn.level_sizes(level)?);
-        match crn.unpack_level(level) {
-            Ok(unpacked) => rows.push(vec![
-                level.to_string(),
-                format!("{width} x {height}"),
-                format!("{} x {}", sizes.columns, sizes.rows),
-                say::number(sizes.bytes as u64),
-                say::number(unpacked.counts.symbols),
-                say::number(unpacked.counts.cutouts),
-            ]),
-            Err(refusal) => {
-                rows.push(vec![format!("level {level}: {refusal}")]);
-                all = false;
-            }
-        }
+impl Level {
+    fn of(crn: &Crn<'_>, level: u32) -> Result<Level, Fault> {
+        let (pixels, sizes) = (crn.pixels(level)?, crn.level_sizes(level)?);
+        let counts = crn.unpack_level(level).map(|level| (level.counts().symbols, level.counts().cutouts)).map_err(Fault::from);
+        Ok(Level { pixels, blocks: (sizes.columns, sizes.rows), bytes: sizes.bytes, counts })
     }
-    let text = format!(
-        "{name}: {}, {}, {} x {} pixels, {}, {}\n  palettes: {}\n{}",
-        say::count(file.len() as u64, "byte"),
-        crn.format().name(),
-        crn.width(),
-        crn.height(),
-        say::count(crn.levels() as u64, "level"),
-        say::count(crn.faces() as u64, "face"),
-        palettes.join(", "),
-        say::table(&rows)
-    );
-    Ok((text, all))
+
+    fn row(&self, number: usize) -> Vec<String> {
+        let (symbols, cutouts) = match &self.counts {
+            Ok(counts) => counts,
+            Err(fault) => return vec![fault.to_string()],
+        };
+        let by = |x: String, y: String| format!("{x} x {y}");
+        vec![
+            number.to_string(),
+            by(self.pixels.0.to_string(), self.pixels.1.to_string()),
+            by(self.blocks.0.to_string(), self.blocks.1.to_string()),
+            say::number(self.bytes as u64),
+            say::number(*symbols),
+            say::number(*cutouts),
+        ]
+    }
+
+    fn json(&self, number: usize) -> String {
+        let ((width, height), (columns, rows)) = (&self.pixels, &self.blocks);
+        let sizes: [(&str, &dyn Display); 6] =
+            [("number", &number), ("width", width), ("height", height), ("columns", columns), ("rows", rows), ("bytes", &self.bytes)];
+        let told = match &self.counts {
+            Ok((symbols, cutouts)) => json::fields(&[("symbols", symbols), ("cutouts", cutouts)]),
+            Err(fault) => fault.json(),
+        };
+        format!("{{{},{told}}}", json::fields(&sizes))
+    }
+}
+
+fn palettes(h: &Header) -> [(&'static str, &'static str, Part); 4] {
+    [
+        ("color_endpoints", "colour endpoint", h.color_endpoints),
+        ("color_selectors", "colour selector", h.color_selectors),
+        ("alpha_endpoints", "alpha endpoint", h.alpha_endpoints),
+        ("alpha_selectors", "alpha selector", h.alpha_selectors),
+    ]
+}
+
+/// Every field of a header, as JSON.
+fn header(h: &Header) -> String {
+    let fields = json::fields(&[
+        ("header_size", &h.header_size),
+        ("header_crc16", &h.header_crc16),
+        ("data_size", &h.data_size),
+        ("data_crc16", &h.data_crc16),
+        ("width", &h.width),
+        ("height", &h.height),
+        ("levels", &h.levels),
+        ("faces", &h.faces),
+        ("format", &h.format),
+        ("flags", &h.flags),
+        ("reserved", &h.reserved),
+        ("userdata0", &h.userdata0),
+        ("userdata1", &h.userdata1),
+    ]);
+    let part = |(name, _, part): (&str, &str, Part)| {
+        let fields = json::fields(&[("offset", &part.offset), ("size", &part.size), ("count", &part.count)]);
+        format!("\"{name}\":{{{fields}}}")
+    };
+    let tables = json::fields(&[("offset", &h.tables_offset), ("size", &h.tables_size)]);
+    let offsets: Vec<String> = h.level_offsets.iter().take(h.levels as usize).map(u32::to_string).collect();
+    format!("{{{fields},{},\"tables\":{{{tables}}},\"level_offsets\":[{}]}}", palettes(h).map(part).join(","), offsets.join(","))
 }

@@ -1,39 +1,88 @@
-//! `crn`: CRN files on the command line. See USAGE.
-#![forbid(unsafe_code)]
+//! `crn`: CRN files on the command line. See `crn help`.
+#![deny(unsafe_code)]
 
+mod args;
 mod bar;
 mod check;
 mod dds;
+mod fault;
 mod files;
 mod info;
+mod json;
+mod names;
 mod say;
+// the only `unsafe` of the command: what std lacks to leave nothing behind at a signal
+#[allow(unsafe_code)]
+mod signals;
 mod unpack;
+mod write;
 
+use args::{Args, Verb};
 use std::ffi::OsString;
 use std::process::ExitCode;
 
-const USAGE: &str = "\
-crn: what CRN files (crunched DXT textures) hold
+const ABOUT: &str = "crn: what CRN files (crunched DXT textures) hold\n";
 
-  crn info FILE..                            a table for each file: its size, format, palettes and levels
-  crn unpack FILE [--level N] [--out DIR]    the raw blocks of every level (or of level N), a file for each level and face,
-                                             into DIR (or the current folder)
-  crn dds FILE..|DIR.. [-o OUT | -d DIR]     a DDS file of each file (of a folder: as `check` finds them), of its name with
-                                             .dds, in DIR (or the current folder); or OUT, of one file; - is standard output
-  crn check FILE..|DIR.. [--json]            unpacks every level of every file (of a folder: all below it whose names end
-                                             in .crn), and tells how many are accepted; --json: a line for each file
-  crn help | crn version
-
-Exit status: 0 where every file and level was accepted; 1 where one was refused, or could not be read or written; 2 for a
-command that makes no sense. A refused level leaves no file, and its file no DDS file.
+const INFO: &str = "
+  crn info [--json] INPUT..
+      a table for each file: its header, palettes and levels, also of a file that is refused, as far as it can be told
 ";
 
-/// Why a command did not end well.
+const CHECK: &str = "
+  crn check [--json] INPUT..
+      unpacks every level of every file, tells which are refused and why, and how many are accepted
+";
+
+const UNPACK: &str = "
+  crn unpack [--level N] [--out DIR] [--force] INPUT..
+      the raw blocks of every level (or of level N): NAME-levelN.dxt1, or NAME-levelN-faceF.dxt1 of a cube map, into DIR
+      (or the current folder). Of a level that is refused, or has a file that is there already, nothing is written
+";
+
+const DDS: &str = "
+  crn dds [-o OUT | -d DIR] [--force] INPUT..
+      a DDS file of each file: NAME.dds into DIR (or the current folder), or OUT of one file; -o - is standard output.
+      Of a file that is refused, or whose DDS file is there already, nothing is written
+";
+
+const SHARED: &str = "
+  INPUT is a file; a folder, for all files below it whose names end in .crn; or -, for standard input.
+      --all               all files below a folder, whatever their names
+      --files-from LIST   also each INPUT that the file LIST (or -, standard input) names, one a line
+      --null              names in LIST end with a zero byte
+      --jobs N            so many files at a time, 1 to 1024; if not given, one for each processor
+      --json              a line of JSON for each file (info, check)
+      --force             replace files that are there (unpack, dds)
+      --                  all words after it are INPUT
+      -h, --help          this, for one command
+
+  Exit status: 0 if all was accepted, 1 if a file or a level was refused, 2 if the command line makes no sense, 3 if
+  something could not be read or written, whatever else was refused.
+";
+
+const OTHERS: &str = "
+  crn help [COMMAND]
+  crn version
+";
+
+const VERBS: [Verb; 4] = [info::VERB, check::VERB, unpack::VERB, dds::VERB];
+
+/// How a command ended that made sense; of several the worst counts.
+#[derive(Clone, Copy, PartialEq, Eq, PartialOrd, Ord)]
+enum Status {
+    Done = 0,
+    /// A file or a level was refused.
+    Refused = 1,
+    /// Something could not be read or written.
+    Trouble = 3,
+}
+
+/// Why a command did not come to an end.
 enum Failure {
-    /// Something was refused, and it was said.
-    Said,
     /// The command line makes no sense.
     Usage(String),
+    /// Something that it needs could not be read.
+    Trouble(String),
     /// What was to be written to standard output was not.
     Output(std::io::Error),
 }
@@ -44,35 +93,56 @@ impl From<std::io::Error> for Failure {
     }
 }
 
-fn run(words: &[OsString]) -> Result<(), Failure> {
+/// The usage: of one command, or of all.
+fn help(verb: Option<&Verb>) -> Result<Status, Failure> {
+    let parts = match verb {
+        Some(verb) => vec![verb.usage, SHARED],
+        None => [ABOUT].into_iter().chain(VERBS.iter().map(|verb| verb.usage)).chain([OTHERS, SHARED]).collect(),
+    };
+    say::all(parts.concat().trim_start_matches('\n'))?;
+    Ok(Status::Done)
+}
+
+fn run(words: &[OsString]) -> Result<Status, Failure> {
     let Some((command, words)) = words.split_first() else {
         return Err(Failure::Usage("it needs a command".into()));
     };
-    match command.to_string_lossy().as_ref() {
-        "info" => info::run(words),
-        "unpack" => unpack::run(words),
-        "dds" => dds::run(words),
-        "check" => check::run(words),
-        "help" | "--help" | "-h" => Ok(say::all(USAGE)?),
-        "version" | "--version" | "-V" => Ok(say::all(concat!("crn ", env!("CARGO_PKG_VERSION"), "\n"))?),
-        other => Err(Failure::Usage(format!("there is no command '{other}'"))),
+    let find = |name: &OsString| VERBS.iter().find(|verb| name == verb.name);
+    let extra = |known: &str| Failure::Usage(format!("`crn {known}` has no use for the words after it"));
+    let none = |name: &OsString| Failure::Usage(format!("there is no command {}", names::shown(name)));
+    if let Some(verb) = find(command) {
+        return Args::of(verb, words)?.map_or_else(|| help(Some(verb)), verb.run);
+    }
+    match (command.to_str(), words) {
+        (Some("help" | "--help" | "-h"), []) => help(None),
+        (Some("help"), [name]) => help(Some(find(name).ok_or_else(|| none(name))?)),
+        (Some("version" | "--version" | "-V"), []) => {
+            say::all(concat!("crn ", env!("CARGO_PKG_VERSION"), "\n"))?;
+            Ok(Status::Done)
+        }
+        (Some(known @ ("help" | "--help" | "-h" | "version" | "--version" | "-V")), _) => Err(extra(known)),
+        _ => Err(none(command)),
     }
 }
 
 fn main() -> ExitCode {
     let words: Vec<OsString> = std::env::args_os().skip(1).collect();
-    match run(&words) {
-        Ok(()) => ExitCode::SUCCESS,
-        Err(Failure::Said) => ExitCode::FAILURE,
+    let trouble = Status::Trouble as u8;
+    ExitCode::from(match run(&words) {
+        Ok(status) => status as u8,
         Err(Failure::Usage(why)) => {
-            eprintln!("crn: {why}; `crn help` has them all");
-            ExitCode::from(2)
+            say::wrong(&format!("{why}; `crn help` has them all"));
+            2
+        }
+        Err(Failure::Trouble(why)) => {
+            say::wrong(&why);
+            trouble
         }
         // who reads has read enough
-        Err(Failure::Output(error)) if error.kind() == std::io::ErrorKind::BrokenPipe => ExitCode::FAILURE,
+        Err(Failure::Output(error)) if error.kind() == std::io::ErrorKind::BrokenPipe => trouble,
         Err(Failure::Output(error)) => {
-            eprintln!("crn: standard output: {}", files::trouble(&error));
-            ExitCode::FAILURE
+            say::wrong(&format!("standard output: {}", files::trouble(&error)));
+            trouble
         }
-    }
+    })
 }

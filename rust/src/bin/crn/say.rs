@@ -1,5 +1,4 @@
-//! What is written for people: numbers, columns, standard output.
-use std::ffi::OsString;
+//! What is written for people: numbers, columns, standard output and standard error.
 use std::io::Write;
 
 /// Writes a whole text to standard output, or says that it could not.
@@ -9,9 +8,14 @@ pub fn all(text: &str) -> std::io::Result<()> {
     out.flush()
 }
 
-/// Whether a word is an option, and no name of a file.
-pub fn option(word: &OsString) -> bool {
-    word.as_encoded_bytes().starts_with(b"--")
+/// Writes a text to standard error. Where that is closed or full there is nobody to tell it, and the work goes on.
+pub fn aside(text: &str) {
+    let _ = std::io::stderr().write_all(text.as_bytes());
+}
+
+/// Says what went wrong.
+pub fn wrong(what: &str) {
+    aside(&format!("crn: {what}\n"));
 }
 
 /// A number with a comma after each three digits.

@@ -1,74 +1,110 @@
 //! `crn unpack`: raw blocks, a file for each level and face.
-use crate::{files, say, Failure};
-use crunch_proved::{Crn, Level};
-use std::ffi::{OsStr, OsString};
+use crate::args::{Args, Verb};
+use crate::fault::{self, Fault};
+use crate::files::{in_order, Found, Input};
+use crate::names::shown;
+use crate::write::{self, Given, Places, Whole};
+use crate::{say, Failure, Status};
+use crunch_proved::{Buffers, Level};
 use std::path::{Path, PathBuf};
 
-pub fn run(words: &[OsString]) -> Result<(), Failure> {
-    let (mut name, mut only, mut out) = (None, None, PathBuf::from("."));
-    let mut words = words.iter();
-    while let Some(word) = words.next() {
-        let mut value = || words.next().ok_or_else(|| Failure::Usage(format!("{} needs a value", word.display())));
-        match word.to_string_lossy().as_ref() {
-            "--level" => {
-                let value = value()?;
-                let number = value.to_str().and_then(|v| v.parse::<u32>().ok());
-                only = Some(number.ok_or_else(|| Failure::Usage(format!("'{}' is no level number", value.display())))?);
-            }
-            "--out" => out = PathBuf::from(value()?),
-            option if option.starts_with("--") => return Err(Failure::Usage(format!("`crn unpack` has no option '{option}'"))),
-            _ if name.is_some() => return Err(Failure::Usage("`crn unpack` takes one file".into())),
-            _ => name = Some(word),
-        }
+pub const VERB: Verb = Verb { name: "unpack", usage: crate::UNPACK, flags: &["--force"], values: &["--level", "--out"], run };
+
+/// What is told of a file: the lines of what was written, those of what was not, and how it ended.
+struct Told {
+    out: String,
+    wrong: Vec<String>,
+    status: Status,
+}
+
+impl Told {
+    fn wrong(&mut self, what: String, status: Status) {
+        self.wrong.push(what);
+        self.status = self.status.max(status);
     }
-    let path = Path::new(name.ok_or_else(|| Failure::Usage("`crn unpack` needs a file".into()))?);
-    let name = &path.to_string_lossy();
-    let fail = |what: &str, why: String| {
-        eprintln!("crn: {what}: {why}");
-        Failure::Said
+}
+
+fn run(args: Args) -> Result<Status, Failure> {
+    let only = args.number("--level", 0..=u32::MAX as usize)?.map(|level| level as u32);
+    let out = PathBuf::from(args.value("--out").unwrap_or(".".as_ref()));
+    let (jobs, inputs) = (args.jobs()?, args.inputs()?);
+    write::leave_nothing_at_a_signal();
+    let (places, found) = Places::new(args.flag("--force"), inputs);
+    let mut given = Given::default();
+    let task = |Found { input, trouble }: Found| {
+        let taken = |first| format!("its files would have the names of those of {first}");
+        let trouble = trouble.or_else(|| given.take(input.stem().into(), &input).err().map(taken));
+        Found { input, trouble }
     };
-    let file = files::read(path).map_err(|why| fail(name, why))?;
-    let crn = Crn::open(&file).map_err(|refusal| fail(name, refusal.to_string()))?;
+    let mut status = Status::Done;
+    let work = |buffers: &mut Buffers, found: &Found| {
+        let mut told = Told { out: String::new(), wrong: Vec::new(), status: Status::Done };
+        let trouble = found.trouble.clone().map_or(Ok(()), |why| Err(Fault::Trouble(why)));
+        if let Err(fault) = trouble.and_then(|_| unpack(buffers, &found.input, only, &out, &places, &mut told)) {
+            told.wrong(format!("{}: {fault}", found.input.shown()), fault.status());
+        }
+        told
+    };
+    in_order(jobs, found.map(task), Buffers::new, work, |_, told| {
+        say::all(&told.out)?;
+        told.wrong.iter().for_each(|what| say::wrong(what));
+        status = status.max(told.status);
+        Ok(())
+    })?;
+    Ok(status)
+}
+
+/// Unpacks and writes a file's levels, or one of them.
+fn unpack(buffers: &mut Buffers, input: &Input, only: Option<u32>, out: &Path, places: &Places, told: &mut Told) -> Result<(), Fault> {
+    let crn = fault::open(input, buffers)?;
     let levels = match only {
         Some(level) if level >= crn.levels() => {
-            let refusal = crn.unpack_level(level).err().map(|r| r.to_string()).unwrap_or_default();
-            return Err(fail(name, format!("level {level}: {refusal}; its levels are 0 to {}", crn.levels() - 1)));
+            let refused = crn.unpack_level(level).map_or_else(|refused| refused.to_string(), |_| String::new());
+            told.wrong(format!("{}: {refused}; its levels are 0 to {}", input.shown(), crn.levels() - 1), Status::Refused);
+            return Ok(());
         }
         Some(level) => level..level + 1,
         None => 0..crn.levels(),
     };
-    std::fs::create_dir_all(&out).map_err(|e| fail(&out.to_string_lossy(), format!("the folder can't be made: {}", files::trouble(&e))))?;
-    let stem = path.file_stem().unwrap_or_default();
-    let mut all = true;
     for number in levels {
-        match crn.unpack_level(number) {
-            Ok(level) => say::all(&write(&out, stem, number, &level).map_err(|(path, e)| fail(&path.to_string_lossy(), files::trouble(&e)))?)?,
-            Err(refusal) => {
-                fail(name, format!("level {number}: {refusal}"));
-                all = false;
+        let level = match crn.unpack_level(number) {
+            Ok(level) => level,
+            Err(refused) => {
+                told.wrong(format!("{}: {refused}", input.shown()), Status::Refused);
+                continue;
             }
+        };
+        match write(out, input, number, &level, places) {
+            Ok(lines) => told.out += &lines,
+            Err(why) => told.wrong(why, Status::Trouble),
         }
     }
-    if all {
-        Ok(())
-    } else {
-        Err(Failure::Said)
-    }
+    Ok(())
 }
 
 /// Writes all faces of a level, or nothing; what was written, a line a file.
-fn write(out: &Path, stem: &OsStr, number: u32, level: &Level) -> Result<String, (PathBuf, std::io::Error)> {
-    let mut whole = files::Whole::new();
-    let mut told = String::new();
-    for face in 0..level.faces {
-        let of = if level.faces > 1 { format!("-face{face}") } else { String::new() };
-        let mut name = stem.to_os_string();
-        name.push(format!("-level{number}{of}.{}", level.format.kind().to_lowercase()));
-        let path = out.join(name);
-        let blocks = level.face(face as usize).unwrap_or_default();
-        whole.write(&path, blocks).map_err(|e| (path.clone(), e))?;
-        told += &format!("{}: {}, {} x {} blocks\n", path.display(), say::count(blocks.len() as u64, "byte"), level.columns, level.rows);
+fn write(out: &Path, input: &Input, number: u32, level: &Level, places: &Places) -> Result<String, String> {
+    let cant = |path: &Path, why: String| format!("{}: {why}", shown(path));
+    let path = |face: u32| {
+        let of = if level.faces() > 1 { format!("-face{face}") } else { String::new() };
+        let mut name = input.stem().to_os_string();
+        name.push(format!("-level{number}{of}.{}", level.format().kind().name().to_lowercase()));
+        out.join(name)
+    };
+    let paths: Vec<PathBuf> = (0..level.faces()).map(path).collect();
+    let mut replaced = Vec::new();
+    for path in &paths {
+        replaced.push(places.free(path).map_err(|why| cant(path, why))?);
     }
-    whole.done().map_err(|e| (out.to_path_buf(), e))?;
+    write::folder(out)?;
+    let mut whole = Whole::new(places.force);
+    let mut told = String::new();
+    for ((face, path), replaced) in paths.iter().enumerate().zip(replaced) {
+        let blocks = level.face(face).unwrap_or_default();
+        whole.write(path, blocks).map_err(|e| cant(path, write::trouble(&e)))?;
+        let (bytes, replaced) = (say::count(blocks.len() as u64, "byte"), if replaced { " (replaced)" } else { "" });
+        told += &format!("{}: {bytes}, {} x {} blocks{replaced}\n", shown(path), level.columns(), level.rows());
+    }
+    whole.done().map_err(|(path, e)| cant(&path, write::trouble(&e)))?;
     Ok(told)
 }
