@@ -4,14 +4,21 @@
 use crate::raw::{Header, Opened, Part as Palette, Room};
 use crate::refusal::{Part, Reason, Refusal, Refused, Segment};
 
-/// The segments that opening reads, in its order, each with the place of its offset and of its size in the header, three bytes and two for
-/// the tables, three and three for a palette.
-fn read(header: &Header) -> impl DoubleEndedIterator<Item = (Part, [usize; 4])> {
-    let palette = |segment, part: Palette, at: usize| ((segment, part.offset as u64, part.size as u64), [at, 3, at + 3, 3]);
-    let tables = ((Segment::Tables, header.tables_offset as u64, header.tables_size as u64), [67, 3, 65, 2]);
+/// A segment that opening reads, and where the header has its offset and its size: the first byte of each and how many there are.
+struct Read {
+    part: Part,
+    offset: (usize, usize),
+    size: (usize, usize),
+}
+
+/// The segments that opening reads, in its order.
+fn segments(header: &Header) -> impl DoubleEndedIterator<Item = Read> {
+    let palette = |segment, part: Palette, at| Read { part: (segment, part.offset as u64, part.size as u64), offset: (at, 3), size: (at + 3, 3) };
+    let tables = (Segment::Tables, header.tables_offset as u64, header.tables_size as u64);
+    let tables = Read { part: tables, offset: (67, 3), size: (65, 2) };
     let color = [palette(Segment::ColorEndpoints, header.color_endpoints, 33), palette(Segment::ColorSelectors, header.color_selectors, 41)];
     let alpha = [palette(Segment::AlphaEndpoints, header.alpha_endpoints, 49), palette(Segment::AlphaSelectors, header.alpha_selectors, 57)];
-    let there = |plane: [(Part, [usize; 4]); 2], endpoints: Palette| plane.into_iter().filter(move |_| endpoints.count > 0);
+    let there = |plane: [Read; 2], endpoints: Palette| plane.into_iter().filter(move |_| endpoints.count > 0);
     [tables].into_iter().chain(there(color, header.color_endpoints)).chain(there(alpha, header.alpha_endpoints))
 }
 
@@ -67,31 +74,33 @@ pub(crate) fn opened(answer: Opened, file: &[u8]) -> Option<Refused> {
     Some(match refusal {
         Refusal::Limit => Refused { reason: limit(header), ..plain },
         Refusal::Size => Refused { reason: size(header, file), ..plain },
-        Refusal::Segment => at(read(header).map(|(part, _)| part).find(|(_, offset, size)| *size == 0 || offset + size > file.len() as u64)),
+        Refusal::Segment => at(segments(header).map(|read| read.part).find(|(_, offset, size)| *size == 0 || offset + size > file.len() as u64)),
         Refusal::Palette => plain,
         _ => at(stream(answer, header, file)),
     })
 }
 
+/// The bytes of a header before the offsets of its levels.
+const FIELDS: usize = 70;
+
 /// The stream that an opening was refused in. The archive does not name it, so it is asked again, with one segment after the other, from the
-/// last on, put where no stream can be read: a byte, which is too short for a code table (8), and three, whose table would have 16,383
-/// symbols (6). The answer stays as it was where the segment comes after the refused one; at the refused one it is another by the one or
-/// the other.
+/// last on, laid over the signature: its first byte is too short for a code table's count (8 at bit 0), both are too short for what follows
+/// the count (8 at bit 14). The answer stays as it was where the segment comes after the refused one; at the refused one it is another by the
+/// one or the other. Nothing is told of a file with a segment among the fields that are changed for it.
 fn stream(answer: Opened, header: &Header, file: &[u8]) -> Option<Part> {
-    // user data have no say in an opening: they are the place
-    const BYTE: (u32, u32) = (25, 1);
-    const THREE: (u32, u32) = (26, 3);
-    let mut room = Room::default();
-    let mut spoilt = file.to_vec();
-    spoilt[25..29].copy_from_slice(&[0, 0xFF, 0xFF, 0xFF]);
-    let mut found = read(header).rev().filter(|(_, [offset, wide, size, long])| {
-        [BYTE, THREE].into_iter().any(|(to, bytes)| {
-            spoilt[*offset..offset + wide].copy_from_slice(&to.to_be_bytes()[4 - wide..]);
-            spoilt[*size..size + long].copy_from_slice(&bytes.to_be_bytes()[4 - long..]);
-            let other = room.open(&spoilt) != answer;
-            spoilt[33..70].copy_from_slice(&file[33..70]);
+    if segments(header).any(|read| read.part.1 < FIELDS as u64) {
+        return None;
+    }
+    let (mut room, mut laid) = (Room::default(), file.to_vec());
+    let put = |laid: &mut [u8], (at, bytes): (usize, usize), number: u32| laid[at..at + bytes].copy_from_slice(&number.to_be_bytes()[4 - bytes..]);
+    let mut refused = segments(header).rev().filter(|read| {
+        [1, 2].into_iter().any(|bytes| {
+            put(&mut laid, read.offset, 0);
+            put(&mut laid, read.size, bytes);
+            let other = room.open(&laid) != answer;
+            laid[..FIELDS].copy_from_slice(&file[..FIELDS]);
             other
         })
     });
-    found.next().map(|(part, _)| part)
+    refused.next().map(|read| read.part)
 }

@@ -195,7 +195,7 @@ impl<'a> Crn<'a> {
 
     /// A level that has more blocks than its segment could hold symbols for: the same level with as many rows only as the segment could
     /// fill. It is refused there as it would be in full, at the same bit, since no row after them is come to.
-    fn claims(&self, level: u32) -> Option<Header> {
+    fn overclaimed(&self, level: u32) -> Option<Header> {
         let header = self.header();
         let (_, offset, size) = blame::level_part(header, &self.file, level);
         // one that does not lie in the file is refused before anything is read of it
@@ -224,7 +224,7 @@ impl<'a> Crn<'a> {
     /// 10 for a level that the file does not have, 4 of its segment, 7, 8, 13 and 14 of its compressed data.
     pub fn unpack_level(&self, level: u32) -> Result<Level, Refused> {
         let (sizes, mut blocks) = (self.level_sizes(level)?, Vec::new());
-        let counts = self.level_in(self.claims(level), level, &mut blocks)?;
+        let counts = self.level_in(self.overclaimed(level), level, &mut blocks)?;
         Ok(Level { blocks, format: self.format, faces: self.faces(), columns: sizes.columns, rows: sizes.rows, counts })
     }
 
@@ -277,7 +277,7 @@ impl<'a> Crn<'a> {
     /// How many levels went through, their counts, and the refusal of the one after them.
     fn levels_in(&self, first: u32, blocks: &mut Vec<u8>) -> (u32, Counts, Option<Refused>) {
         // a level that can't be is left out of the memory that is taken, and comes to 12 in its turn
-        let claim = (first..self.levels()).find_map(|level| Some((level, self.claims(level)?)));
+        let claim = (first..self.levels()).find_map(|level| Some((level, self.overclaimed(level)?)));
         let most = claim.as_ref().map_or(self.levels(), |(level, _)| *level).saturating_sub(first);
         let answer = raw::levels_in(self.room.record(), &self.file, &self.palettes(), (first, most), blocks);
         let counts = Counts { symbols: answer.symbols, cutouts: answer.cutouts };
@@ -345,7 +345,7 @@ impl<'a> Crn<'a> {
     /// 16 as [`dds_bytes`](Crn::dds_bytes); or the first refusal of a level, as [`unpack_level`](Crn::unpack_level) has them.
     pub fn to_dds(&self) -> Result<Dds, Refused> {
         let _ = self.dds_bytes()?;
-        if (0..self.levels()).any(|level| self.claims(level).is_some()) {
+        if (0..self.levels()).any(|level| self.overclaimed(level).is_some()) {
             return Err(self.unpack_levels(0).expect_err("a level can't be").refused);
         }
         let mut bytes = Vec::new();

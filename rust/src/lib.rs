@@ -25,6 +25,7 @@ mod answers;
 mod blame;
 mod crn;
 mod format;
+mod grouped;
 #[allow(unsafe_code)]
 pub mod raw;
 mod reading;

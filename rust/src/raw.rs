@@ -514,10 +514,11 @@ impl Room {
         let (ce, cs) = (cleared(&mut self.color_endpoints, words.color_endpoints), cleared(&mut self.color_selectors, words.color_selectors));
         let (ae, al) = (cleared(&mut self.alpha_endpoints, words.alpha_endpoints), cleared(&mut self.alpha_selectors, words.alpha_selectors));
         let record = self.record.get_or_insert_with(Box::new_uninit).as_mut_ptr();
-        // SAFETY: each buffer has as much room as stands beside it, and an accepted file fills all its words.
+        // SAFETY: each buffer has as much room as stands beside it.
         let opened = unsafe { open_at(file, ce, cs, ae, al, record) };
         if opened.refusal == 0 {
             self.open = true;
+            // SAFETY: a file that is accepted fills all these words.
             unsafe {
                 self.color_endpoints.set_len(ce.1);
                 self.color_selectors.set_len(cs.1);

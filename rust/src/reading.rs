@@ -43,7 +43,7 @@ impl fmt::Debug for Buffers {
 ///
 /// Without limits, too, the memory that a file takes goes by its own bytes and not by what its header claims: a level that claims more than
 /// its bytes could hold is refused as it would be in a destination of its whole size, without taking that. What can be held is still much:
-/// four blocks, of 32 to 64 bytes, take three bits at least.
+/// four blocks of 8 bytes may take no more than six bits.
 ///
 /// ```
 /// use crunch_proved::{Crn, Limits, NotRead};

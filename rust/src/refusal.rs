@@ -1,5 +1,6 @@
 //! The refusals, by their numbers, and what each is of.
 
+use crate::grouped::grouped;
 use std::fmt;
 
 /// Why a file, a level or a call was refused, by its number.
@@ -260,11 +261,4 @@ impl fmt::Display for Reason {
             _ => write!(f, "{} to {}", grouped(self.least), grouped(self.most)),
         }
     }
-}
-
-/// A number with a comma after each three digits.
-fn grouped(n: u64) -> String {
-    let digits = n.to_string();
-    let comma = |i: usize| i > 0 && (digits.len() - i).is_multiple_of(3);
-    digits.char_indices().flat_map(|(i, digit)| comma(i).then_some(',').into_iter().chain([digit])).collect()
 }

@@ -138,6 +138,11 @@ fn a_refused_opening_names_the_field_or_the_segment() {
         assert!(no.number() == number && no.to_string().ends_with(words), "{no}");
     }
     assert_eq!(Crn::open(&sample("dxt5.crn")[..73]).unwrap_err().to_string(), Refusal::NotCrn.to_string());
+    // a segment among the header's fields: what is refused is told, and not where
+    let mut file = sample("dxt5.crn");
+    file[33..36].copy_from_slice(&[0, 0, 69]);
+    let no = Crn::open(&file).unwrap_err();
+    assert!(no.number() > 5 && no.place.is_none() && no.to_string() == no.refusal.to_string(), "{no}");
 }
 
 /// Spoils the segment whose offset stands at a place of the header.

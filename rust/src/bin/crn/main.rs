@@ -7,6 +7,8 @@ mod check;
 mod dds;
 mod fault;
 mod files;
+#[path = "../../grouped.rs"]
+mod grouped;
 mod info;
 mod json;
 mod names;

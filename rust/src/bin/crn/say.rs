@@ -1,4 +1,5 @@
 //! What is written for people: numbers, columns, standard output and standard error.
+pub use crate::grouped::grouped as number;
 use std::io::Write;
 
 /// Writes a whole text to standard output, or says that it could not.
@@ -16,19 +17,6 @@ pub fn aside(text: &str) {
 /// Says what went wrong.
 pub fn wrong(what: &str) {
     aside(&format!("crn: {what}\n"));
-}
-
-/// A number with a comma after each three digits.
-pub fn number(n: u64) -> String {
-    let digits = n.to_string();
-    let mut out = String::new();
-    for (i, digit) in digits.chars().enumerate() {
-        if i > 0 && (digits.len() - i).is_multiple_of(3) {
-            out.push(',');
-        }
-        out.push(digit);
-    }
-    out
 }
 
 /// So many of a thing: `1 level`, `7 levels`.
