@@ -11,7 +11,7 @@ use crn_formats::has_color;
 use crn_formats::implies;
 use crn_formats::is_known;
 ghost use mathlib.Core.Path.{_≡_};
-ghost use Rattle.crn_format.specs.Header.{entriesFit, withinLimits, sizesHold};
+ghost use Rattle.crn_format.specs.Header.{entriesFit, withinLimits, sizesIn};
 
 // "Palette counts at most 8,192; each palette that the format uses has at least one entry."
 fn entries_fit(uses: bool, palette: Part) -> bool
@@ -42,11 +42,11 @@ pub fn within_limits(h: Header) -> bool
 }
 
 // "Header size is at least 70 + 4 x levels; neither it nor data size exceeds the file's length", nor that 4,294,967,295.
-pub fn sizes_hold(file: &[u8], h: Header) -> bool
-    ensures { λ r. ⌜ r ≡ sizesHold (now (file .entry)) h ⌝ }
+pub fn sizes_hold(length: usize, h: Header) -> bool
+    ensures { λ r. ⌜ r ≡ sizesIn length h ⌝ }
 {
     (70 + 4 * h.levels as usize <= h.header_size as usize)
-        & (h.header_size as usize <= file.len())
-        & (h.data_size as usize <= file.len())
-        & (file.len() < TOO_LONG)
+        & (h.header_size as usize <= length)
+        & (h.data_size as usize <= length)
+        & (length < TOO_LONG)
 }

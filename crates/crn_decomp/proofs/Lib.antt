@@ -1,1 +1,1 @@
-pub mod LookAndOpen
+pub mod Compared

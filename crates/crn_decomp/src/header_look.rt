@@ -1,19 +1,13 @@
-// The header look: refusal 1, 2 or 3, or the header.
+// The header look (document 02, request 2): refusal 1, 2 or 3, or the header.
 use crn_bounds::sizes_hold;
 use crn_bounds::within_limits;
 use crn_format::Header;
+use crn_format::Looked;
 use crn_format::Part;
 use crn_header::header_of;
 use crn_header::is_signed;
 ghost use mathlib.Core.Path.{_≡_};
-ghost use Rattle.crn_decomp.specs.Look.{emptyHeader, no, lookOf};
-
-// Refusal 0 with the header; else the number of the refusal, with the empty header.
-#[repr(C)]
-pub struct Looked {
-    pub refusal: u32,
-    pub header: Header,
-}
+ghost use Rattle.crn_format.specs.Look.{emptyHeader, no, lookAt, lookOf};
 
 // What a refusal gives for a header: every field 0.
 fn empty_header() -> Header
@@ -59,22 +53,29 @@ fn refused(refusal: u32) -> Looked
     }
 }
 
-// "Opening: 1, 2, 3": in this order, without the streams.
-pub fn look(file: &[u8]) -> Looked
-    ensures { λ r. ⌜ r ≡ lookOf (now (file .entry)) ⌝ }
+// "Opening: 1, 2, 3": in this order, without the streams, of a file of so many bytes that begins with these. The first 122 are enough.
+pub fn look_at(head: &[u8], length: usize) -> Looked
+    ensures { λ r. ⌜ r ≡ lookAt (now (head .entry)) length ⌝ }
 {
-    if !is_signed(file) {
+    if !is_signed(head, length) {
         return refused(1);
     }
-    let header = header_of(file);
+    let header = header_of(head);
     if !within_limits(header) {
         return refused(2);
     }
-    if !sizes_hold(file, header) {
+    if !sizes_hold(length, header) {
         return refused(3);
     }
     Looked {
         refusal: 0,
         header: header,
     }
+}
+
+// The same of a whole file.
+pub fn look(file: &[u8]) -> Looked
+    ensures { λ r. ⌜ r ≡ lookOf (now (file .entry)) ⌝ }
+{
+    look_at(file, file.len())
 }

@@ -8,4 +8,8 @@ pub mod Budget
 pub mod Passing
 pub mod Planes
 pub mod Writing
+pub mod LookAndOpen
+pub mod Loads
+pub mod Heads
 pub mod Examples
+pub mod LoadExamples

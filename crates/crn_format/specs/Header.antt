@@ -9,9 +9,12 @@ use Rattle.crn_format.specs.Limits.{maxSide, maxLevels, maxEntries, tooL
 use Rattle.crn_format.specs.declared.Part.{Part}
 use Rattle.crn_format.specs.declared.Header.{Header}
 
--- "The signature is the two bytes 48 78 (hex), compared as they stand"; 74 bytes at least (refusal 1)
-unfoldable pub signed : List ℕ → Bool
-signed file = both (leb 74 (length file)) (both (eqb (getD file 0 0) 0x48) (eqb (getD file 1 0) 0x78))
+-- "The signature is the two bytes 48 78 (hex), compared as they stand"; 74 bytes at least (refusal 1): of n bytes that begin with these
+unfoldable pub signedIn : List ℕ → ℕ → Bool
+signedIn head n = both (leb 74 n) (both (eqb (getD head 0 0) 0x48) (eqb (getD head 1 0) 0x78))
+
+abbrev pub signed : List ℕ → Bool
+signed file = signedIn file (length file)
 
 -- the number that n bytes from `at` on spell, the first the highest; a byte past the file's end counts as 0 (such a file gets 3)
 unfoldable pub field : List ℕ → ℕ → ℕ → ℕ
@@ -118,8 +121,11 @@ withinLimits h =
     kind : Kind
     kind = kindOf (h .format)
 
--- "Header size is at least 70 + 4 x levels; neither it nor data size exceeds the file's length", and that is 4,294,967,295 at most
-unfoldable pub sizesHold : List ℕ → Header → Bool
-sizesHold file h =
+-- "Header size is at least 70 + 4 x levels; neither it nor data size exceeds the file's length", n, and that is 4,294,967,295 at most
+unfoldable pub sizesIn : ℕ → Header → Bool
+sizesIn n h =
     both (leb (70 + 4 * h .levels) (h .«header_size»))
-    (both (leb (h .«header_size») (length file)) (both (leb (h .«data_size») (length file)) (ltb (length file) tooLong)))
+    (both (leb (h .«header_size») n) (both (leb (h .«data_size») n) (ltb n tooLong)))
+
+abbrev pub sizesHold : List ℕ → Header → Bool
+sizesHold file h = sizesIn (length file) h

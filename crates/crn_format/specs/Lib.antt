@@ -8,7 +8,9 @@ pub mod Script
 pub mod Tables
 pub mod Palettes
 pub mod Header
+pub mod Look
 pub mod Opening
+pub mod Loading
 pub mod Level
 pub mod Grid
 pub mod Unpacking

@@ -33,6 +33,13 @@ pub struct Header {
     pub level_offsets: [u32; 13],
 }
 
+// What a look at a header gives: refusal 0 with the header; else the number of the refusal, with the empty header.
+#[repr(C)]
+pub struct Looked {
+    pub refusal: u32,
+    pub header: Header,
+}
+
 // A code table: how many symbols it was sent for, and each symbol's code length, zero beyond the count.
 #[repr(C)]
 pub struct Table {

@@ -1,5 +1,5 @@
 -- A pair of bytes compared as a byte string is compared byte by byte.
-use Prim.Native.Nat.{ℕ, _≤_}
+use Prim.Native.Nat.{ℕ, _≤_, _<_}
 use mathlib.Core.Path.{_≡_, refl}
 use mathlib.Core.Bool.{Bool, true, false, false≢true}
 use mathlib.Core.List.{List, [], _∷_}
@@ -29,3 +29,9 @@ two-bytes (a ∷ b ∷ rest) x y false long says said =
     let ax = eqb-true a x p in
     let by = eqb-true b y q in
     false≢true (said (cc))
+
+-- of less than two bytes the second counts as 0
+pub unsigned : (file : List ℕ) (x y : ℕ) → (0 ≡ y → ⊥) → length file < 2 → false ≡ both (eqb (getD file 0 0) x) (eqb (getD file 1 0) y)
+unsigned [] x y other short = not-both (eqb 0 x) (eqb 0 y) λ p q. other (eqb-true 0 y q)
+unsigned (a ∷ []) x y other short = not-both (eqb a x) (eqb 0 y) λ p q. other (eqb-true 0 y q)
+unsigned (a ∷ b ∷ rest) x y other short = let z : ⊥ = omega arith in absurd z

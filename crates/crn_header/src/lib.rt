@@ -1,4 +1,4 @@
-// The signature and the fields of a header (document 01, Header). A byte past the file's end counts as 0.
+// The signature and the fields of a header (document 01, Header). A byte past the end of what is handed in counts as 0.
 use crn_format::Header;
 use crn_format::Part;
 use crn_formats::MAX_LEVELS;
@@ -9,16 +9,19 @@ use crn_utils::big32;
 use crn_utils::byte;
 ghost use mathlib.Core.Path.{_≡_};
 ghost use Rattle.crn_format.specs.Limits.{maxLevels};
-ghost use Rattle.crn_format.specs.Header.{signed, field, partAt, offsetAt, offsetsFrom, headerOf};
+ghost use Rattle.crn_format.specs.Header.{signedIn, field, partAt, offsetAt, offsetsFrom, headerOf};
 
-// "The signature is the two bytes 48 78 (hex), compared as they stand."
-pub fn is_signed(file: &[u8]) -> bool
-    ensures { λ r. ⌜ r ≡ signed (now (file .entry)) ⌝ }
+// "The signature is the two bytes 48 78 (hex), compared as they stand": of a file of so many bytes that begins with these.
+pub fn is_signed(head: &[u8], length: usize) -> bool
+    ensures { λ r. ⌜ r ≡ signedIn (now (head .entry)) length ⌝ }
 {
-    if file.len() < MIN_SIZE {
+    if length < MIN_SIZE {
         return false;
     }
-    check::same(&file[0..2], b"Hx")
+    if head.len() < 2 {
+        return false;
+    }
+    check::same(&head[0..2], b"Hx")
 }
 
 // A field of one byte.

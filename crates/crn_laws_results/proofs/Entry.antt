@@ -1,15 +1,21 @@
 -- The entry crate's functions: the answer, the buffers, the tables, the budget and the destination are fixed.
 use Prim.Native.Nat.{ℕ}
-use mathlib.Core.Path.{_≡_, ap}
+use mathlib.Core.Bool.{Bool, true, false}
+use mathlib.Core.Path.{_≡_, refl, ap}
 use mathlib.Core.List.{List}
 use native.Mathlib.Omega.{arith}
 use denote.Ref.{now}
-use Rattle.crn_format.specs.Opening.{Palettes}
+use Rattle.crn_format.specs.Opening.{Palettes, Lengths}
+use Rattle.crn_format.specs.Loading.{agrees}
 use Rattle.crn_format.specs.Unpacking.{Unpacking}
+use Rattle.crn_format.specs.declared.Header.{Header}
 use Rattle.crn_formats.specs.Lent.{lentOf}
 use Rattle.crn_opening.specs.declared.opening.Opened.{Opened}
-use Rattle.crn_opening.specs.Opens.{openedBy}
+use Rattle.crn_opening.specs.declared.opening.OpenedHeader.{OpenedHeader}
+use Rattle.crn_opening.specs.Opens.{openedBy, Loads}
+use Rattle.crunch.proofs.load.Reads as load
 use Rattle.crunch.proofs.«open».Reads as opening
+use Rattle.crn_opening.proofs.load_into.Reads as load-into
 use Rattle.crn_opening.proofs.open_into.Reads as open-into
 use Rattle.crn_chunks.specs.Meaning.{Served}
 use Rattle.crn_drawing.specs.Unpacks.{answerOf, symbolsOf, Unpacks}
@@ -33,6 +39,31 @@ pub open-into-settled : Settled {X = Opened × Palettes} open-into.Post
     (λ a r (file, (ce, (cs, (ae, (al, (t₁, (t₂, (t₃, (t₄, (t₅, _)))))))))).
     (openedBy r (now t₁) (now t₂) (now t₃) (now t₄) (now t₅), lentOf (now ce) (now cs) (now ae) (now al)))
 open-into-settled _ _ _ _ _ _ _ p q = alike₂ (p .answer) (q .answer) (p .leaves) (q .leaves)
+
+-- ---- a load
+
+pub load-settled : Settled {X = Opened × Palettes} load.Post
+    (λ a r (header, (file, (ce, (cs, (ae, (al, _)))))). (r, lentOf (now ce) (now cs) (now ae) (now al)))
+load-settled _ _ _ _ _ _ _ p q = alike₂ (p .answer) (q .answer) (p .leaves) (q .leaves)
+
+abbrev toldBy : OpenedHeader → Lengths → Opened
+toldBy r t = openedBy r (t .chunk) (t .colorEnds) (t .colorSels) (t .alphaEnds) (t .alphaSels)
+
+-- also where record and file disagree, and the arrays are as they had been
+pub loads-settled : {h : Header} {file : List ℕ} {lent after₁ after₂ : Palettes} {had left₁ left₂ : Lengths} {r s : OpenedHeader}
+    → Loads h file lent after₁ had left₁ r → Loads h file lent after₂ had left₂ s
+    → _≡_ {A = Opened × Palettes} (toldBy r left₁, after₁) (toldBy s left₂, after₂)
+loads-settled {h} {file} {lent} {after₁} {after₂} {had} {left₁} {left₂} {r} {s} p q =
+    λ i. (by (agrees h file) refl i, alike (p .leaves) (q .leaves) i)
+  where
+    by : (b : Bool) → agrees h file ≡ b → toldBy r left₁ ≡ toldBy s left₂
+    by true e = alike (p .alike e) (q .alike e)
+    by false e = rw (p .apart e .0, p .apart e .1, q .apart e .0, q .apart e .1)
+
+pub load-into-settled : Settled {X = Opened × Palettes} load-into.Post
+    (λ a r (header, (file, (ce, (cs, (ae, (al, (t₁, (t₂, (t₃, (t₄, (t₅, _))))))))))).
+    (openedBy r (now t₁) (now t₂) (now t₃) (now t₄) (now t₅), lentOf (now ce) (now cs) (now ae) (now al)))
+load-into-settled _ _ _ _ _ _ _ p q = loads-settled p q
 
 -- ---- a level
 

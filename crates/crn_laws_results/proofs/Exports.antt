@@ -12,6 +12,8 @@ use Rattle.crn_levels.specs.declared.Several.{Several}
 use Rattle.crunch_abi.specs.declared.level.Answer.{Answer}
 use Rattle.crunch_abi.specs.Answers.{answerOf}
 use Rattle.crunch_abi.proofs.crunch_look.Reads as crunch-look
+use Rattle.crunch_abi.proofs.crunch_look_at.Reads as crunch-look-at
+use Rattle.crunch_abi.proofs.crunch_load_parts.Reads as crunch-load-parts
 use Rattle.crunch_abi.proofs.crunch_open_parts.Reads as crunch-open-parts
 use Rattle.crunch_abi.proofs.crunch_palette_words.Reads as crunch-palette-words
 use Rattle.crunch_abi.proofs.crunch_level_sizes.Reads as crunch-level-sizes
@@ -19,10 +21,13 @@ use Rattle.crunch_abi.proofs.crunch_unpack_level_parts.Reads as crunch-unpack-l
 use Rattle.crunch_abi.proofs.crunch_unpack_levels_parts.Reads as crunch-unpack-levels-parts
 use Rattle.crunch_abi.proofs.crunch_abi_version.Reads as crunch-abi-version
 use Rattle.crn_laws_results.specs.Settled.{Settled, theAnswer, alike, alike₂}
-use Rattle.crn_laws_results.proofs.Entry.{unpacks-settled, gives-settled}
+use Rattle.crn_laws_results.proofs.Entry.{loads-settled, unpacks-settled, gives-settled}
 
 pub crunch-look-settled : Settled crunch-look.Post theAnswer
 crunch-look-settled _ _ _ _ _ _ _ p q = alike p q
+
+pub crunch-look-at-settled : Settled crunch-look-at.Post theAnswer
+crunch-look-at-settled _ _ _ _ _ _ _ p q = alike p q
 
 pub crunch-palette-words-settled : Settled crunch-palette-words.Post theAnswer
 crunch-palette-words-settled _ _ _ _ _ _ _ p q = alike p q
@@ -37,6 +42,11 @@ pub crunch-open-parts-settled : Settled {X = Opened × Palettes} crunch-open-par
     (λ a r (file, (ce, (cs, (ae, (al, (t₁, (t₂, (t₃, (t₄, (t₅, _)))))))))).
     (openedBy r (now t₁) (now t₂) (now t₃) (now t₄) (now t₅), lentOf (now ce) (now cs) (now ae) (now al)))
 crunch-open-parts-settled _ _ _ _ _ _ _ p q = alike₂ (p .answer) (q .answer) (p .leaves) (q .leaves)
+
+pub crunch-load-parts-settled : Settled {X = Opened × Palettes} crunch-load-parts.Post
+    (λ a r (header, (file, (ce, (cs, (ae, (al, (t₁, (t₂, (t₃, (t₄, (t₅, _))))))))))).
+    (openedBy r (now t₁) (now t₂) (now t₃) (now t₄) (now t₅), lentOf (now ce) (now cs) (now ae) (now al)))
+crunch-load-parts-settled _ _ _ _ _ _ _ p q = loads-settled p q
 
 pub crunch-unpack-level-parts-settled : Settled {X = Answer × (ℕ × List ℕ)} crunch-unpack-level-parts.Post
     (λ a r (header, (counts, (t₁, (t₂, (t₃, (t₄, (t₅, (bytes, (ce, (cs, (ae, (al, (level, (pitch, (distance, (budget, (dst, _))))))))))))))))).

@@ -31,6 +31,8 @@ use Rattle.crn_header.proofs.header_of.Reads as header-of
 use Rattle.crn_bounds.proofs.within_limits.Reads as within-limits
 use Rattle.crn_bounds.proofs.sizes_hold.Reads as sizes-hold
 use Rattle.crn_decomp.proofs.look.Reads as look
+use Rattle.crn_decomp.proofs.look_at.Reads as look-at
+use Rattle.crn_decomp.proofs.agrees.Reads as agrees
 use Rattle.crn_segments.proofs.segments_stand.Reads as segments-stand
 use Rattle.crn_segments.proofs.room_for.Reads as room-for
 use Rattle.crn_grid.proofs.columns_of.Reads as columns-of
@@ -170,6 +172,12 @@ sizes-hold-settled _ _ _ _ _ _ _ p q = alike p q
 
 pub look-settled : Settled look.Post theAnswer
 look-settled _ _ _ _ _ _ _ p q = alike p q
+
+pub look-at-settled : Settled look-at.Post theAnswer
+look-at-settled _ _ _ _ _ _ _ p q = alike p q
+
+pub agrees-settled : Settled agrees.Post theAnswer
+agrees-settled _ _ _ _ _ _ _ p q = alike p q
 
 pub segments-stand-settled : Settled segments-stand.Post theAnswer
 segments-stand-settled _ _ _ _ _ _ _ p q = alike p q

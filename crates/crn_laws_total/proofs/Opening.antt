@@ -1,7 +1,7 @@
 -- Every opening ends with an answer or with one of the refusals 1 to 9, and leaves the lent buffers as document 01 says.
 use Prim.Native.Nat.{ℕ, _+_, _*_, _-_, _≤_}
 use mathlib.Core.Bool.{Bool, true, false, false≢true}
-use mathlib.Core.List.{List, _++_}
+use mathlib.Core.List.{List, [], _∷_, _++_}
 use mathlib.Core.Path.{_≡_, refl, sym, ap, _∙_}
 use native.Mathlib.Omega.{arith}
 use lib.ListN.{length, getD, drop, length-append, length-drop, length-replicate, getD-replicate}
@@ -12,11 +12,12 @@ use Rattle.crn_format.specs.Choice.{pick, both}
 use Rattle.crn_format.specs.Reading.{Reading, Step, got, refused, Place, start, run, fromBits}
 use Rattle.crn_format.specs.Header.{headerOf, withinLimits, sizesHold, signed}
 use Rattle.crn_format.specs.Palettes.{colorEndpoints, colorSelectors, alphaEndpoints, alphaSelectors}
-use Rattle.crn_format.specs.Opening.{Palettes, Lengths, Opening, opened, shut, present, ofPlane, segmentsStand, roomFor, segment, zeros, zeroed, filled, onward, paletteIn, sentTables, tablesOf, streams, opening}
+use Rattle.crn_format.specs.Opening.{Palettes, Lengths, Opening, opened, shut, present, ofPlane, segmentsStand, roomFor, segment, zeros}
+use Rattle.crn_format.specs.Opening.{zeroed, filled, onward, paletteIn, sentTables, tablesOf, streams, afterLook, opening}
 use Rattle.crn_format.specs.declared.Part.{Part}
 use Rattle.crn_format.specs.declared.Header.{Header}
 use Rattle.crn_format.proofs.Choices.{both-hold}
-use Rattle.crn_laws_total.specs.Refusals.{among, beforeStreams, inStreams}
+use Rattle.crn_laws_total.specs.Refusals.{among, beforeStreams, inStreams, afterLookRefusals}
 use Rattle.crn_laws_total.specs.Leaves.{Zeroed, Beyond}
 use Rattle.crn_laws_total.specs.Ends.{Open, Shut, OpeningEnds}
 use Rattle.crn_laws_total.proofs.Numbers.{among-first, among-second, none-in-both}
@@ -192,3 +193,18 @@ opening-ends file lent =
     by true true true false e is = early lent 4 refl
     by true true true true false is = early lent 5 refl
     by true true true true true is = streams-through file lent h is (OpeningEnds lent) (late lent) (λ t w e after o. o)
+
+-- ---- after the look: what is opened has this header, and the look's own refusals, 1, 2 and 3, do not come any more
+
+abbrev pub Late : Header → Opening → Type 0
+Late h (opened r after) = r .header ≡ h
+Late h (shut n bit after) = among n afterLookRefusals ≡ true
+
+pub after-look-late : (file : List ℕ) (lent : Palettes) (h : Header) → Late h (afterLook file lent h)
+after-look-late file lent h = by (segmentsStand file h) (roomFor h lent) refl
+  where
+    by : (d e : Bool) → roomFor h lent ≡ e → Late h (pick d (pick e (streams file lent h) (shut 5 0 lent)) (shut 4 0 lent))
+    by false e is = refl
+    by true false is = refl
+    by true true is =
+        streams-through file lent h is (Late h) (λ n bit s. among-second n (4 ∷ 5 ∷ []) inStreams s) (λ t w e after o. refl)

@@ -18,6 +18,10 @@ beforeStreams = 1 ∷ 2 ∷ 3 ∷ 4 ∷ 5 ∷ []
 abbrev pub inStreams : List ℕ
 inStreams = 6 ∷ 7 ∷ 8 ∷ 9 ∷ []
 
+-- from 4 on, which a load has in common with it (document 02, request 2)
+abbrev pub afterLookRefusals : List ℕ
+afterLookRefusals = 4 ∷ 5 ∷ inStreams
+
 -- those "by" opening and by both: 1 to 9
 abbrev pub openingRefusals : List ℕ
 openingRefusals = beforeStreams ++ inStreams

@@ -10,7 +10,7 @@ use lib.Dec.{leb, ltb}
 use borrow.Author.Tests.{leb-true, ltb-true, lt-ltb}
 use Rattle.crn_format.specs.Choice.{pick, both}
 use Rattle.crn_format.specs.Limits.{maxEntries, tooLong}
-use Rattle.crn_format.specs.Header.{sizesHold}
+use Rattle.crn_format.specs.Header.{sizesIn}
 use Rattle.crn_format.specs.Opening.{Palettes, ofPlane, stands, partStands, segment, segmentsStand, roomFor}
 use Rattle.crn_format.specs.declared.Part.{Part}
 use Rattle.crn_format.specs.declared.Header.{Header}
@@ -49,9 +49,9 @@ plane-fits file ends sels words room b₁ b₂ enough short few₁ few₂ stand 
 
 module _ {file : List ℕ} {h : Header} {lent : Palettes} (passed : Passed file h lent) where
   pub file-short : length file < tooLong
-  unfolding sizesHold
+  unfolding sizesIn
   file-short =
-      let enough = both-hold (leb (70 + 4 * h .levels) (h .«header_size»)) _ (passed .sizes) .1 in
+      let enough = both-hold (leb (70 + 4 * h .levels) (h .«header_size»)) _ (passed .seen .sizes) .1 in
       let held = both-hold (leb (h .«header_size») (length file)) _ enough .1 in
       ltb-true _ _ (both-hold (leb (h .«data_size») (length file)) _ held .1)
 
@@ -62,7 +62,7 @@ module _ {file : List ℕ} {h : Header} {lent : Palettes} (passed : Passed file 
       leb-true _ _ (both-hold (ltb 0 (h .«tables_size»)) _ tables .1)
 
   few : Limited h
-  few = limited h (passed .within)
+  few = limited h (passed .seen .within)
 
   pub color-fits : PlaneFits file (h .«color_endpoints») (h .«color_selectors») 1 (lent .colorEnds) (lent .colorSels)
   unfolding segmentsStand roomFor

@@ -1,28 +1,30 @@
 -- From the parts of an opening to the whole.
 use Prim.Native.Nat.{ℕ}
-use mathlib.Core.Bool.{Bool, true, false}
+use mathlib.Core.Bool.{Bool, true, false, false≢true}
 use mathlib.Core.List.{List}
 use mathlib.Core.Path.{_≡_, refl, sym, ap, subst, _∙_}
 use native.Mathlib.Omega.{arith}
 use lib.ListN.{length}
 use borrow.Author.Tests.{eq-eqb}
-use Rattle.crn_format.specs.Choice.{pick}
 use Rattle.crn_format.specs.Reading.{start, run, fromBits}
-use Rattle.crn_format.specs.Header.{signed, headerOf, withinLimits, sizesHold}
-use Rattle.crn_format.specs.Opening.{Palettes, Opening, opened, shut, segment, zeroed, segmentsStand, roomFor, sentTables, tablesOf, streams, opening}
+use Rattle.crn_format.specs.Header.{headerOf}
+use Rattle.crn_format.specs.Look.{lookOf}
+use Rattle.crn_format.specs.Opening.{Palettes, Opening, opened, shut, Lengths, segment, zeroed, segmentsStand, roomFor, sentTables}
+use Rattle.crn_format.specs.Opening.{tablesOf, streams, afterLook, opening}
+use Rattle.crn_format.specs.Loading.{agrees, loading}
 use Rattle.crn_format.specs.declared.Header.{Header}
+use Rattle.crn_format.specs.declared.Looked.{Looked}
 use Rattle.crn_format.specs.declared.Record.{Record}
+use Rattle.crn_format.proofs.LookAndOpen.{look-passes, look-refuses, look-goes-on}
+use Rattle.crn_format.proofs.Loads.{agrees-found, agrees-own, load-apart}
 use Rattle.crn_formats.specs.Records.{tablesBy}
-use Rattle.crn_decomp.specs.Look.{found, no, lookOf}
-use Rattle.crn_decomp.specs.declared.header_look.Looked.{Looked}
-use Rattle.crn_decomp.proofs.LookAndOpen.{afterLook, look-refuses, look-goes-on}
 use Rattle.crn_palettes.specs.declared.Ended.{Ended}
 use Rattle.crn_opening.specs.declared.opening.Opened.{Opened}
 use Rattle.crn_opening.specs.declared.opening.OpenedHeader.{OpenedHeader}
 use Rattle.crn_opening.specs.declared.tables_segment.Sent.{Sent}
 use Rattle.crn_opening.specs.SentTables.{AllZero, Told, told, sentOf}
-use Rattle.crn_opening.specs.Loading.{Passed, PalettesEnd}
-use Rattle.crn_opening.specs.Opens.{refusedHeader, openedBy, closed, toOpened, buffersOf, Opens}
+use Rattle.crn_opening.specs.Loading.{Seen, PalettesEnd}
+use Rattle.crn_opening.specs.Opens.{refusedHeader, openedBy, closed, toOpened, buffersOf, Opens, Loads}
 use Rattle.crn_opening.proofs.Loading.{cleared, on, off, tables-stop, tables-read}
 
 -- ---- an opening that is known
@@ -66,18 +68,26 @@ module _ (file : List ℕ) (h : Header) (lent : Palettes) (sent : Sent) (a b c d
       → Opens (streams file lent h) after (record { refusal = 0; at = 0; file = record { header = h; tables = tablesBy (sent .counts) a b c d f } })
   streams-told z p y = rw (eq-eqb (sent .refusal) 0 z) at (streams-read file h lent e z p y)
 
--- ---- the checks, and then the streams
+-- ---- the checks from 4 on, and then the streams
 
--- a look that finds a header has passed its checks
-found-by : (h : Header) (s w z : Bool) → pick s (pick w (pick z (found h) (no 3)) (no 2)) (no 1) .refusal ≡ 0 → (w ≡ true) × (z ≡ true)
-found-by h true true true e = (refl, refl)
-found-by h true true false e = let z : ⊥ = omega arith in absurd z
-found-by h true false z e = let z : ⊥ = omega arith in absurd z
-found-by h false w z e = let z : ⊥ = omega arith in absurd z
+module _ (file : List ℕ) (lent : Palettes) (h : Header) where
+  pub no-segment : segmentsStand file h ≡ false → {r : Opened} → r ≡ closed 4 0 → Opens (afterLook file lent h) lent r
+  no-segment s a = is-shut (simp s) refl a
 
-module _ (file : List ℕ) (lent : Palettes) {looked : Looked} (e : looked ≡ lookOf file) where
-  pub look-refused : (looked .refusal ≡ 0 → ⊥) → {r : Opened} → r ≡ closed (looked .refusal) 0 → Opens (opening file lent) lent r
-  look-refused z a =
+  module _ (s : segmentsStand file h ≡ true) where
+    pub no-room : roomFor h lent ≡ false → {r : Opened} → r ≡ closed 5 0 → Opens (afterLook file lent h) lent r
+    no-room f a = is-shut (simp (s, f)) refl a
+
+    pub then-streams : roomFor h lent ≡ true → {after : Palettes} {r : Opened} → Opens (streams file lent h) after r
+        → Opens (afterLook file lent h) after r
+    then-streams f {after} {r} o = subst (λ (x : Opening). Opens x after r) (sym (simp (s, f))) o
+
+-- ---- opening: the look, and what comes after it
+
+module _ (file : List ℕ) {looked : Looked} (e : looked ≡ lookOf file) where
+  pub look-refused : (lent : Palettes) → (looked .refusal ≡ 0 → ⊥) → {r : Opened} → r ≡ closed (looked .refusal) 0
+      → Opens (opening file lent) lent r
+  look-refused lent z a =
       let n = ap (λ (x : Looked). x .refusal) e in
       is-shut (look-refuses file lent (omega arith) ∙ ap (λ (n : ℕ). shut n 0 lent) (sym n)) refl a
 
@@ -86,25 +96,48 @@ module _ (file : List ℕ) (lent : Palettes) {looked : Looked} (e : looked ≡ l
     looks-on = sym (ap (λ (x : Looked). x .refusal) e) ∙ z
 
     header-is : looked .header ≡ headerOf file
-    header-is = ap (λ (x : Looked). x .header) e ∙ look-goes-on file lent looks-on .1
+    header-is = ap (λ (x : Looked). x .header) (e ∙ look-passes file looks-on .0)
 
-    goes-on : opening file lent ≡ afterLook file lent (looked .header)
-    goes-on = look-goes-on file lent looks-on .0 ∙ ap (afterLook file lent) (sym header-is)
+    pub look-passed : Seen file (looked .header)
+    look-passed =
+        let both = look-passes file looks-on .1 in
+        record { within = rw header-is (both .0); sizes = rw header-is (both .1) }
 
-    pub no-segment : segmentsStand file (looked .header) ≡ false → {r : Opened} → r ≡ closed 4 0 → Opens (opening file lent) lent r
-    no-segment s a = is-shut (goes-on ∙ simp s) refl a
+    pub then-opens : (lent : Palettes) {after : Palettes} {r : Opened} → Opens (afterLook file lent (looked .header)) after r
+        → Opens (opening file lent) after r
+    then-opens lent {after} {r} o =
+        subst (λ (x : Opening). Opens x after r) (sym (look-goes-on file lent looks-on ∙ ap (afterLook file lent) (sym header-is))) o
 
-    module _ (s : segmentsStand file (looked .header) ≡ true) where
-      pub no-room : roomFor (looked .header) lent ≡ false → {r : Opened} → r ≡ closed 5 0 → Opens (opening file lent) lent r
-      no-room f a = is-shut (goes-on ∙ simp (s, f)) refl a
+-- ---- a load: the record against the file, and what comes after it
 
-      module _ (f : roomFor (looked .header) lent ≡ true) where
-        pub all-passed : Passed file (looked .header) lent
-        unfolding lookOf
-        all-passed =
-            let h = headerOf file in
-            let both = found-by h (signed file) (withinLimits h) (sizesHold file h) looks-on in
-            record { within = rw header-is (both .0); sizes = rw header-is (both .1); stand = s; room = f }
+module _ (h : Header) (file : List ℕ) where
+  pub loads-apart : (lent : Palettes) → agrees h file ≡ false → {had : Lengths} {r : OpenedHeader} → r ≡ refusedHeader 17 0
+      → Loads h file lent lent had had r
+  loads-apart lent n a =
+      record {
+        leaves = sym (ap buffersOf (load-apart h file lent n));
+        apart = λ _. (a, refl);
+        alike = λ y. absurd (false≢true (sym n ∙ y));
+      }
 
-        pub then-streams : {after : Palettes} {r : Opened} → Opens (streams file lent (looked .header)) after r → Opens (opening file lent) after r
-        then-streams {after} {r} o = subst (λ (x : Opening). Opens x after r) (sym (goes-on ∙ simp (s, f))) o
+  module _ (y : agrees h file ≡ true) where
+    pub agreed : Seen file h
+    agreed =
+        let both = look-passes file (ap (λ (x : Looked). x .refusal) (agrees-found h file y)) .1 in
+        let own = agrees-own h file y in
+        record { within = rw own (both .0); sizes = rw own (both .1) }
+
+    goes-on : (lent : Palettes) → loading h file lent ≡ afterLook file lent h
+    unfolding loading
+    goes-on lent = simp y
+
+    pub loads-on : (lent : Palettes) {after : Palettes} {had left : Lengths} {r : OpenedHeader}
+        → Opens (afterLook file lent h) after (openedBy r (left .chunk) (left .colorEnds) (left .colorSels) (left .alphaEnds)
+        (left .alphaSels))
+        → Loads h file lent after had left r
+    loads-on lent o =
+        record {
+          leaves = o .leaves ∙ ap buffersOf (sym (goes-on lent));
+          apart = λ n. absurd (false≢true (sym n ∙ y));
+          alike = λ _. o .answer ∙ ap toOpened (sym (goes-on lent));
+        }

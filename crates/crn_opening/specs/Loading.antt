@@ -16,12 +16,16 @@ use Rattle.crn_format.specs.declared.Header.{Header}
 use Rattle.crn_formats.specs.Lent.{lentOf}
 use Rattle.crn_palettes.specs.declared.Ended.{Ended}
 
--- ---- what a load may count on
+-- ---- what reading the streams may count on
 
--- the checks before the stream: 2, 3, 4 and 5
-pub record Passed (file : List ℕ) (h : Header) (lent : Palettes) : Type 0 where
+-- a header that a look has let through: 2 and 3
+pub record Seen (file : List ℕ) (h : Header) : Type 0 where
   pub within : withinLimits h ≡ true
   pub sizes : sizesHold file h ≡ true
+
+-- and the checks before the stream: 4 and 5
+pub record Passed (file : List ℕ) (h : Header) (lent : Palettes) : Type 0 where
+  pub seen : Seen file h
   pub stand : segmentsStand file h ≡ true
   pub room : roomFor h lent ≡ true
 

@@ -1,11 +1,14 @@
--- What opening a file answers, and what the four lent buffers then hold.
+-- What opening a file answers, and what the four lent buffers then hold; the same of a load.
 use Prim.Native.Nat.{ℕ}
+use mathlib.Core.Bool.{true, false}
 use mathlib.Core.Path.{_≡_}
 use mathlib.Core.List.{List}
-use Rattle.crn_format.specs.Opening.{Palettes, Opening, opened, shut, tablesOf}
+use Rattle.crn_format.specs.Look.{emptyHeader}
+use Rattle.crn_format.specs.Opening.{Palettes, Opening, opened, shut, Lengths, tablesOf}
+use Rattle.crn_format.specs.Loading.{agrees, loading}
+use Rattle.crn_format.specs.declared.Header.{Header}
 use Rattle.crn_format.specs.declared.Record.{Record}
 use Rattle.crn_formats.specs.Records.{recordBy}
-use Rattle.crn_decomp.specs.Look.{emptyHeader}
 use Rattle.crn_opening.specs.SentTables.{noLengths, noCounts}
 use Rattle.crn_opening.specs.declared.opening.Opened.{Opened}
 use Rattle.crn_opening.specs.declared.opening.OpenedHeader.{OpenedHeader}
@@ -38,3 +41,16 @@ buffersOf (shut n bit after) = after
 pub record Opens (o : Opening) (after : Palettes) (r : Opened) : Type 0 where
   pub answer : r ≡ toOpened o
   pub leaves : after ≡ buffersOf o
+
+-- the five arrays that the tables' lengths are left in
+abbrev pub arraysOf : List ℕ → List ℕ → List ℕ → List ℕ → List ℕ → Lengths
+arraysOf chunk colorEnds colorSels alphaEnds alphaSels =
+    record { chunk = chunk; colorEnds = colorEnds; colorSels = colorSels; alphaEnds = alphaEnds; alphaSels = alphaSels }
+
+-- what a load of a file by the record h answers, and what it leaves: the definition's; and where the two disagree, every lent array, too,
+-- as it had been
+pub record Loads (h : Header) (file : List ℕ) (lent after : Palettes) (had left : Lengths) (r : OpenedHeader) : Type 0 where
+  pub leaves : after ≡ buffersOf (loading h file lent)
+  pub apart : agrees h file ≡ false → (r ≡ refusedHeader 17 0) × (left ≡ had)
+  pub alike : agrees h file ≡ true
+      → openedBy r (left .chunk) (left .colorEnds) (left .colorSels) (left .alphaEnds) (left .alphaSels) ≡ toOpened (loading h file lent)

@@ -1,8 +1,10 @@
-// Opening a file: the header look, the segments and the lent buffers, then the streams (document 01, Refusal numbers).
+// Opening a file, in one call or by a look's record: the header, the segments and the lent buffers, then the streams (document 01, Refusal
+// numbers; document 02, request 2).
 use crate::palettes::read_palettes;
 use crate::palettes::segment;
 use crate::tables_segment::no_counts;
 use crate::tables_segment::read_tables;
+use crn_decomp::agrees;
 use crn_decomp::look;
 use crn_format::Header;
 use crn_format::Record;
@@ -12,11 +14,11 @@ use crn_palettes::clear32;
 use crn_segments::room_for;
 use crn_segments::segments_stand;
 ghost use mathlib.Core.Path.{_≡_};
-ghost use Rattle.crn_format.specs.Opening.{streams, opening as «openingOf», zeroed};
+ghost use Rattle.crn_format.specs.Opening.{streams, afterLook, opening as «openingOf», zeroed};
 ghost use Rattle.crn_formats.specs.Lent.{lentOf};
 ghost use Rattle.crn_opening.specs.SentTables.{AllZero};
-ghost use Rattle.crn_opening.specs.Loading.{Passed};
-ghost use Rattle.crn_opening.specs.Opens.{refusedHeader, openedBy, Opens};
+ghost use Rattle.crn_opening.specs.Loading.{Seen, Passed};
+ghost use Rattle.crn_opening.specs.Opens.{refusedHeader, openedBy, arraysOf, Opens, Loads};
 
 // Refusal 0 with the opened file; else the refusal, the bit that it names (0 before the streams), and the empty record.
 pub struct Opened {
@@ -82,7 +84,7 @@ fn clear(
 }
 
 // The streams: the tables, then the palettes.
-fn load(
+fn read_streams(
     file: &[u8],
     h: Header,
     color_endpoints: &mut [u32],
@@ -145,10 +147,11 @@ fn load(
     }
 }
 
-// A file opened with four lent buffers: "1, 2, 3, 4 for every segment it reads, 5, then the stream". The tables' lengths go into five lent
+// "4 for every segment it reads, 5, then the stream", by a header that a look has let through. The tables' lengths go into five lent
 // arrays, whatever these held: a record is too large to be handed back.
-pub fn open_into(
+fn after_look(
     file: &[u8],
+    h: Header,
     color_endpoints: &mut [u32],
     color_selectors: &mut [u32],
     alpha_endpoints: &mut [u16],
@@ -159,14 +162,17 @@ pub fn open_into(
     alpha_ends: &mut [u8; 8192],
     alpha_sels: &mut [u8; 8192],
 ) -> OpenedHeader
-    ensures { λ r. ⌜ Opens («openingOf» (now (file .entry)) (lentOf (now («color_endpoints» .entry)) (now («color_selectors» .entry)) (now («alpha_endpoints» .entry)) (now («alpha_selectors» .entry)))) (lentOf (now («color_endpoints» .exit)) (now («color_selectors» .exit)) (now («alpha_endpoints» .exit)) (now («alpha_selectors» .exit))) (openedBy r (now (chunk .exit)) (now («color_ends» .exit)) (now («color_sels» .exit)) (now («alpha_ends» .exit)) (now («alpha_sels» .exit))) ⌝ }
+    requires { ⌜ Seen (now file) h ⌝ }
+    ensures { λ r. ⌜ Opens (afterLook (now (file .entry))
+        (lentOf (now («color_endpoints» .entry)) (now («color_selectors» .entry))
+        (now («alpha_endpoints» .entry)) (now («alpha_selectors» .entry)))
+        h)
+        (lentOf (now («color_endpoints» .exit)) (now («color_selectors» .exit))
+        (now («alpha_endpoints» .exit)) (now («alpha_selectors» .exit)))
+        (openedBy r (now (chunk .exit)) (now («color_ends» .exit)) (now («color_sels» .exit))
+        (now («alpha_ends» .exit)) (now («alpha_sels» .exit))) ⌝ }
 {
     clear_tables(chunk, color_ends, color_sels, alpha_ends, alpha_sels);
-    let looked = look(file);
-    if looked.refusal != 0 {
-        return refused(looked.refusal, 0);
-    }
-    let h = looked.header;
     let stand = segments_stand(file, h);
     let room = room_for(
         h,
@@ -181,9 +187,95 @@ pub fn open_into(
     if !room {
         return refused(5, 0);
     }
-    load(
+    read_streams(
         file,
         h,
+        color_endpoints,
+        color_selectors,
+        alpha_endpoints,
+        alpha_selectors,
+        chunk,
+        color_ends,
+        color_sels,
+        alpha_ends,
+        alpha_sels,
+    )
+}
+
+// A file opened with four lent buffers: "1, 2, 3, 4 for every segment it reads, 5, then the stream".
+pub fn open_into(
+    file: &[u8],
+    color_endpoints: &mut [u32],
+    color_selectors: &mut [u32],
+    alpha_endpoints: &mut [u16],
+    alpha_selectors: &mut [u16],
+    chunk: &mut [u8; 8192],
+    color_ends: &mut [u8; 8192],
+    color_sels: &mut [u8; 8192],
+    alpha_ends: &mut [u8; 8192],
+    alpha_sels: &mut [u8; 8192],
+) -> OpenedHeader
+    ensures { λ r. ⌜ Opens («openingOf» (now (file .entry))
+        (lentOf (now («color_endpoints» .entry)) (now («color_selectors» .entry))
+        (now («alpha_endpoints» .entry)) (now («alpha_selectors» .entry))))
+        (lentOf (now («color_endpoints» .exit)) (now («color_selectors» .exit))
+        (now («alpha_endpoints» .exit)) (now («alpha_selectors» .exit)))
+        (openedBy r (now (chunk .exit)) (now («color_ends» .exit)) (now («color_sels» .exit))
+        (now («alpha_ends» .exit)) (now («alpha_sels» .exit))) ⌝ }
+{
+    let looked = look(file);
+    if looked.refusal != 0 {
+        clear_tables(chunk, color_ends, color_sels, alpha_ends, alpha_sels);
+        return refused(looked.refusal, 0);
+    }
+    let h = looked.header;
+    after_look(
+        file,
+        h,
+        color_endpoints,
+        color_selectors,
+        alpha_endpoints,
+        alpha_selectors,
+        chunk,
+        color_ends,
+        color_sels,
+        alpha_ends,
+        alpha_sels,
+    )
+}
+
+// The palettes of a file that was looked at (document 02, request 2): "17, record and file disagree (also where the look refuses the file),
+// comes first in the load", with nothing touched that was lent; then as opening goes on.
+pub fn load_into(
+    header: Header,
+    file: &[u8],
+    color_endpoints: &mut [u32],
+    color_selectors: &mut [u32],
+    alpha_endpoints: &mut [u16],
+    alpha_selectors: &mut [u16],
+    chunk: &mut [u8; 8192],
+    color_ends: &mut [u8; 8192],
+    color_sels: &mut [u8; 8192],
+    alpha_ends: &mut [u8; 8192],
+    alpha_sels: &mut [u8; 8192],
+) -> OpenedHeader
+    ensures { λ r. ⌜ Loads header (now (file .entry))
+        (lentOf (now («color_endpoints» .entry)) (now («color_selectors» .entry))
+        (now («alpha_endpoints» .entry)) (now («alpha_selectors» .entry)))
+        (lentOf (now («color_endpoints» .exit)) (now («color_selectors» .exit))
+        (now («alpha_endpoints» .exit)) (now («alpha_selectors» .exit)))
+        (arraysOf (now (chunk .entry)) (now («color_ends» .entry)) (now («color_sels» .entry))
+        (now («alpha_ends» .entry)) (now («alpha_sels» .entry)))
+        (arraysOf (now (chunk .exit)) (now («color_ends» .exit)) (now («color_sels» .exit))
+        (now («alpha_ends» .exit)) (now («alpha_sels» .exit)))
+        r ⌝ }
+{
+    if !agrees(header, file) {
+        return refused(17, 0);
+    }
+    after_look(
+        file,
+        header,
         color_endpoints,
         color_selectors,
         alpha_endpoints,

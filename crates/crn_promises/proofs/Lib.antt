@@ -1,5 +1,6 @@
 pub mod Look
 pub mod Opening
+pub mod Loading
 pub mod Level
 pub mod Levels
 pub mod Ready

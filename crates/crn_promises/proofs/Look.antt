@@ -7,10 +7,10 @@ use mathlib.Core.Path.{_≡_, refl}
 use native.Mathlib.Omega.{arith}
 use Rattle.crn_format.specs.Choice.{pick}
 use Rattle.crn_format.specs.Header.{headerOf, withinLimits, sizesHold, signed}
+use Rattle.crn_format.specs.Look.{found, no, lookAt, lookOf}
 use Rattle.crn_format.specs.declared.Header.{Header}
-use Rattle.crn_decomp.specs.Look.{found, no, lookOf}
-use Rattle.crn_decomp.specs.declared.header_look.Looked.{Looked}
-use Rattle.crn_decomp.proofs.LookAndOpen.{look-refuses}
+use Rattle.crn_format.specs.declared.Looked.{Looked}
+use Rattle.crn_format.proofs.LookAndOpen.{look-refuses}
 use Rattle.crn_laws_total.specs.Refusals.{among}
 use Rattle.crn_promises.specs.Promises.{LookTotal}
 
@@ -34,4 +34,4 @@ look-total file a is =
     })
   where
     n : Numbered (headerOf file) (lookOf file)
-    n = unfold lookOf in three (headerOf file) (signed file) (withinLimits (headerOf file)) (sizesHold file (headerOf file))
+    n = unfold lookAt in three (headerOf file) (signed file) (withinLimits (headerOf file)) (sizesHold file (headerOf file))

@@ -1,13 +1,17 @@
 -- The three promises, as theorems over the own contracts of the functions that people call. `Says X.Post (λ a r e. CLAIM ..)` is read:
 -- whatever X is given (a), where it answers r and leaves e as its contract allows, CLAIM holds. The claims are in specs/Promises.antt;
 -- what a call is, in specs/Calls.antt. Each theorem is proved by the law of its file: Look, Opening, Level, Levels, Ready, Told,
--- ToldAll, Dds. The second promise stands first, since the others follow from it.
+-- ToldAll, Dds, Loading. The second promise stands first, since the others follow from it.
 --
--- `open`, `unpack_level`, `unpack_levels`, `write_dds` and `dds_bytes` are what `crunch` hands out; `open_into` and `unpack_level_by` are
--- the same with the record by its parts; those named `crunch_..` are what C and Rust call.
+-- `look`, `look_at`, `load`, `open`, `unpack_level`, `unpack_levels`, `write_dds` and `dds_bytes` are what `crunch` hands out; `load_into`,
+-- `open_into` and `unpack_level_by` are the same with the record by its parts; those named `crunch_..` are what C and Rust call.
 use mathlib.Core.Path.{_≡_, refl}
 use denote.Ref.{now}
+use Rattle.crn_decomp.proofs.look.Reads as look-call
+use Rattle.crn_decomp.proofs.look_at.Reads as look-at
+use Rattle.crunch.proofs.load.Reads as load-call
 use Rattle.crunch.proofs.«open».Reads as open-call
+use Rattle.crn_opening.proofs.load_into.Reads as load-into
 use Rattle.crn_opening.proofs.open_into.Reads as open-into
 use Rattle.crn_level.proofs.unpack_level.Reads as unpack-level
 use Rattle.crn_level.proofs.unpack_level_by.Reads as unpack-level-by
@@ -15,6 +19,8 @@ use Rattle.crn_levels.proofs.unpack_levels.Reads as unpack-levels
 use Rattle.dds.proofs.write_dds.Reads as write-dds
 use Rattle.dds.proofs.dds_bytes.Reads as dds-bytes
 use Rattle.crunch_abi.proofs.crunch_look.Reads as crunch-look
+use Rattle.crunch_abi.proofs.crunch_look_at.Reads as crunch-look-at
+use Rattle.crunch_abi.proofs.crunch_load_parts.Reads as crunch-load-parts
 use Rattle.crunch_abi.proofs.crunch_open_parts.Reads as crunch-open-parts
 use Rattle.crunch_abi.proofs.crunch_palette_words.Reads as crunch-palette-words
 use Rattle.crunch_abi.proofs.crunch_level_sizes.Reads as crunch-level-sizes
@@ -28,9 +34,11 @@ use Rattle.picture.specs.Answers.{neededFor}
 use Rattle.dds.specs.Header.{ddsOf}
 use Rattle.crunch_abi.specs.Sizes.{paletteWords}
 use Rattle.crunch_abi.specs.Version.{abiVersion}
-use Rattle.crn_promises.specs.Calls.{Says, openCall, openPartsCall, levelCall, levelByCall, levelPartsCall, levelsCall, ddsCall}
+use Rattle.crn_promises.specs.Calls.{Says, openCall, openPartsCall, loadCall, loadPartsCall, levelCall, levelByCall, levelPartsCall}
+use Rattle.crn_promises.specs.Calls.{levelsCall, ddsCall}
 use Rattle.crn_promises.specs.Promises.{LookTotal, OpenTotal, LevelTotal, LevelsTotal, OpenSame, LevelSame, LevelsSame, LevelExact, LevelsExact, OpenReady, LevelReady, LevelsReady, OpenTold, LevelTold, LevelsTold}
 use Rattle.crn_promises.specs.Promises.{DdsSame, DdsTotal, DdsExact, DdsReady, DdsTold, BytesTotal}
+use Rattle.crn_promises.specs.Promises.{HeadTotal, LoadSame, LoadTotal, LoadExact, TwoCalls, LoadReady, LoadTold}
 use Rattle.crn_promises.proofs.Look as look
 use Rattle.crn_promises.proofs.Opening as opening
 use Rattle.crn_promises.proofs.Level as level
@@ -39,6 +47,7 @@ use Rattle.crn_promises.proofs.Ready as ready
 use Rattle.crn_promises.proofs.Told as told
 use Rattle.crn_promises.proofs.ToldAll as told-all
 use Rattle.crn_promises.proofs.Dds as dds
+use Rattle.crn_promises.proofs.Loading as loading
 
 -- ---- 2. THE SAME. "Each accepted file gives the same palettes and, for one face, the same block bytes as the Rust. What we prove
 -- against is written from the published crn_decomp.h." The answer and all that is left are the definitions' (crn_format), for accepted
@@ -72,6 +81,9 @@ crunch-unpack-levels-parts-same κ a r e p = p
 -- blocks or with a numbered refusal. A level refused before its first draw leaves the destination untouched; one refused later leaves
 -- every block of the grid zero and all else as before." None of these functions has a `requires`, so their contracts speak of every
 -- call.
+
+pub look-total : Says look-call.Post (λ (file, _) r e. LookTotal (now file) r)
+look-total κ (file, _) r e p = look.look-total (now file) r p
 
 pub crunch-look-total : Says crunch-look.Post (λ (file, _) r e. LookTotal (now file) r)
 crunch-look-total κ (file, _) r e p = look.look-total (now file) r p
@@ -223,3 +235,77 @@ write-dds-told κ a r e p = dds.dds-told (ddsCall a r e) p
 
 pub crunch-write-dds-parts-told : Says crunch-write-dds-parts.Post (λ a r e. DdsTold (ddsCall a r e))
 crunch-write-dds-parts-told κ a r e p = dds.dds-told (ddsCall a r e) p
+
+-- ---- REQUEST 2, OPENING IN TWO CALLS. "Split opening into a header look and a palette load that takes the look's record and the same
+-- file. The load checks again that the record equals what this file's header says, since workers have passed the wrong one. One call after
+-- the other answers as the old opening did. Refusals: 1 to 3 belong to the look; 17, record and file disagree (also where the look refuses
+-- the file), comes first in the load, palettes untouched." The look has its promise above, among the total ones.
+
+-- a file's first bytes are enough for the look
+pub look-at-total : Says look-at.Post (λ (head, (length, _)) r e. HeadTotal (now head) length r)
+look-at-total κ (head, (length, _)) r e p = loading.head-total (now head) length r p
+
+pub crunch-look-at-total : Says crunch-look-at.Post (λ (head, (length, _)) r e. HeadTotal (now head) length r)
+crunch-look-at-total κ (head, (length, _)) r e p = loading.head-total (now head) length r p
+
+pub load-same : Says load-call.Post (λ a r e. LoadSame (loadCall a r e))
+load-same κ a r e p = loading.whole-same (loadCall a r e) p refl
+
+pub load-into-same : Says load-into.Post (λ a r e. LoadSame (loadPartsCall a r e))
+load-into-same κ a r e p = loading.parts-same (loadPartsCall a r e) r refl p
+
+pub crunch-load-parts-same : Says crunch-load-parts.Post (λ a r e. LoadSame (loadPartsCall a r e))
+crunch-load-parts-same κ a r e p = loading.parts-same (loadPartsCall a r e) r refl p
+
+pub load-total : Says load-call.Post (λ a r e. LoadTotal (loadCall a r e))
+load-total κ a r e p = loading.load-total (loadCall a r e) (load-same κ a r e p)
+
+pub load-exact : Says load-call.Post (λ a r e. LoadExact (loadCall a r e))
+load-exact κ a r e p = loading.load-exact (loadCall a r e) (load-same κ a r e p)
+
+pub load-ready : Says load-call.Post (λ a r e. LoadReady (loadCall a r e))
+load-ready κ a r e p = loading.load-ready (loadCall a r e) (load-same κ a r e p)
+
+pub load-told : Says load-call.Post (λ a r e. LoadTold (loadCall a r e))
+load-told κ a r e p = loading.load-told (loadCall a r e) (load-same κ a r e p)
+
+pub load-into-total : Says load-into.Post (λ a r e. LoadTotal (loadPartsCall a r e))
+load-into-total κ a r e p = loading.load-total (loadPartsCall a r e) (load-into-same κ a r e p)
+
+pub load-into-exact : Says load-into.Post (λ a r e. LoadExact (loadPartsCall a r e))
+load-into-exact κ a r e p = loading.load-exact (loadPartsCall a r e) (load-into-same κ a r e p)
+
+pub load-into-ready : Says load-into.Post (λ a r e. LoadReady (loadPartsCall a r e))
+load-into-ready κ a r e p = loading.load-ready (loadPartsCall a r e) (load-into-same κ a r e p)
+
+pub load-into-told : Says load-into.Post (λ a r e. LoadTold (loadPartsCall a r e))
+load-into-told κ a r e p = loading.load-told (loadPartsCall a r e) (load-into-same κ a r e p)
+
+pub crunch-load-parts-total : Says crunch-load-parts.Post (λ a r e. LoadTotal (loadPartsCall a r e))
+crunch-load-parts-total κ a r e p = loading.load-total (loadPartsCall a r e) (crunch-load-parts-same κ a r e p)
+
+pub crunch-load-parts-exact : Says crunch-load-parts.Post (λ a r e. LoadExact (loadPartsCall a r e))
+crunch-load-parts-exact κ a r e p = loading.load-exact (loadPartsCall a r e) (crunch-load-parts-same κ a r e p)
+
+pub crunch-load-parts-ready : Says crunch-load-parts.Post (λ a r e. LoadReady (loadPartsCall a r e))
+crunch-load-parts-ready κ a r e p = loading.load-ready (loadPartsCall a r e) (crunch-load-parts-same κ a r e p)
+
+pub crunch-load-parts-told : Says crunch-load-parts.Post (λ a r e. LoadTold (loadPartsCall a r e))
+crunch-load-parts-told κ a r e p = loading.load-told (loadPartsCall a r e) (crunch-load-parts-same κ a r e p)
+
+-- a look, a load by what it gave, and an opening of the same file
+pub look-then-load : Says look-call.Post (λ (file, _) l _. Says load-call.Post (λ b r f. Says open-call.Post (λ d s g.
+    TwoCalls (now file) l (loadCall b r f) (openCall d s g))))
+look-then-load κ (file, _) l _ p κ₁ b r f q κ₂ d s g o = loading.two-calls (loadCall b r f) (load-same κ₁ b r f q) (now file) l p
+    (openCall d s g) o
+
+pub look-then-load-into : Says look-call.Post (λ (file, _) l _. Says load-into.Post (λ b r f. Says open-into.Post (λ d s g.
+    TwoCalls (now file) l (loadPartsCall b r f) (openPartsCall d s g))))
+look-then-load-into κ (file, _) l _ p κ₁ b r f q κ₂ d s g o =
+    loading.two-calls (loadPartsCall b r f) (load-into-same κ₁ b r f q) (now file) l p (openPartsCall d s g) o
+
+pub crunch-look-then-load : Says crunch-look.Post (λ (file, _) l _. Says crunch-load-parts.Post (λ b r f. Says crunch-open-parts.Post
+    (λ d s g.
+    TwoCalls (now file) l (loadPartsCall b r f) (openPartsCall d s g))))
+crunch-look-then-load κ (file, _) l _ p κ₁ b r f q κ₂ d s g o =
+    loading.two-calls (loadPartsCall b r f) (crunch-load-parts-same κ₁ b r f q) (now file) l p (openPartsCall d s g) o

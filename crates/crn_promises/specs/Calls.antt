@@ -1,11 +1,11 @@
 -- Calls of the entry functions: what each was given, what it answers in document 01's numbers, and what it leaves in what it was lent.
--- One shape serves every function that opens a file, one every function that unpacks a level, one every function that unpacks several,
--- one every function that writes a DDS file: those with the record whole, those with the record by its parts, and those that C and Rust
--- call.
+-- One shape serves every function that opens a file, one every function that loads one by a look's record, one every function that unpacks
+-- a level, one every function that unpacks several, one every function that writes a DDS file: those with the record whole, those with the
+-- record by its parts, and those that C and Rust call.
 use Prim.Native.Nat.{ℕ, _+_}
-use mathlib.Core.List.{List}
+use mathlib.Core.List.{List, []}
 use denote.Ref.{RefT, now}
-use Rattle.crn_format.specs.Opening.{Palettes}
+use Rattle.crn_format.specs.Opening.{Palettes, Lengths}
 use Rattle.crn_format.specs.Unpacking.{Unpacking, unpacked, declined}
 use Rattle.crn_format.specs.declared.Header.{Header}
 use Rattle.crn_format.specs.declared.Record.{Record}
@@ -13,7 +13,7 @@ use Rattle.crn_formats.specs.Lent.{lentOf}
 use Rattle.crn_formats.specs.Records.{recordBy}
 use Rattle.crn_formats.specs.declared.records.Counts.{Counts}
 use Rattle.crn_drawing.specs.declared.Unpacked.{Unpacked}
-use Rattle.crn_opening.specs.Opens.{openedBy}
+use Rattle.crn_opening.specs.Opens.{openedBy, arraysOf}
 use Rattle.crn_opening.specs.declared.opening.Opened.{Opened}
 use Rattle.crn_opening.specs.declared.opening.OpenedHeader.{OpenedHeader}
 use Rattle.crn_sizes.specs.Sizes.{levelSizes}
@@ -36,6 +36,18 @@ pub record OpenCall : Type 0 where
   pub file : List ℕ
   pub lent : Palettes
   pub after : Palettes
+  pub answer : Opened
+
+-- ---- a load: the same by a record that was handed in. What the arrays that are lent for the tables' lengths had, and what is left in
+-- them; there are none where the record is handed back whole
+
+pub record LoadCall : Type 0 where
+  pub header : Header
+  pub file : List ℕ
+  pub lent : Palettes
+  pub had : Lengths
+  pub after : Palettes
+  pub left : Lengths
   pub answer : Opened
 
 -- ---- a level: refusal 0, symbols and cut-outs; or the refusal, its bit, the symbols drawn, and no cut-outs
@@ -145,6 +157,33 @@ openPartsCall (file, (ce, (cs, (ae, (al, _))))) r (_, (ce₁, (cs₁, (ae₁, (a
       lent = lentOf (now ce) (now cs) (now ae) (now al);
       after = lentOf (now ce₁) (now cs₁) (now ae₁) (now al₁);
       answer = openedBy r (now t₁) (now t₂) (now t₃) (now t₄) (now t₅);
+    }
+
+-- `load`
+abbrev pub loadCall : Header × OpenGiven → Opened → Header × OpenGiven → LoadCall
+loadCall (h, (file, (ce, (cs, (ae, (al, _)))))) r (_, (_, (ce₁, (cs₁, (ae₁, (al₁, _)))))) =
+    record {
+      header = h;
+      file = now file;
+      lent = lentOf (now ce) (now cs) (now ae) (now al);
+      had = arraysOf [] [] [] [] [];
+      after = lentOf (now ce₁) (now cs₁) (now ae₁) (now al₁);
+      left = arraysOf [] [] [] [] [];
+      answer = r;
+    }
+
+-- `load_into`, `crunch_load_parts`
+abbrev pub loadPartsCall : Header × OpenIntoGiven → OpenedHeader → Header × OpenIntoGiven → LoadCall
+loadPartsCall (h, (file, (ce, (cs, (ae, (al, (t₁, (t₂, (t₃, (t₄, (t₅, _))))))))))) r
+    (_, (_, (ce₁, (cs₁, (ae₁, (al₁, (u₁, (u₂, (u₃, (u₄, (u₅, _))))))))))) =
+    record {
+      header = h;
+      file = now file;
+      lent = lentOf (now ce) (now cs) (now ae) (now al);
+      had = arraysOf (now t₁) (now t₂) (now t₃) (now t₄) (now t₅);
+      after = lentOf (now ce₁) (now cs₁) (now ae₁) (now al₁);
+      left = arraysOf (now u₁) (now u₂) (now u₃) (now u₄) (now u₅);
+      answer = openedBy r (now u₁) (now u₂) (now u₃) (now u₄) (now u₅);
     }
 
 -- `unpack_level`

@@ -4,17 +4,18 @@ use mathlib.Core.Path.{_≡_}
 use mathlib.Core.Bool.{true, false}
 use mathlib.Core.Logic.{_⊎_, _↔_}
 use mathlib.Core.List.{List, [], _∷_, _++_}
-use lib.ListN.{length}
+use lib.ListN.{length, take}
 use Rattle.crn_format.specs.Header.{headerOf, withinLimits}
 use Rattle.crn_format.specs.Grid.{painted}
+use Rattle.crn_format.specs.Look.{emptyHeader, found, no, headBytes, lookOf}
 use Rattle.crn_format.specs.Opening.{Palettes, shut, opening}
+use Rattle.crn_format.specs.Loading.{agrees, loading}
 use Rattle.crn_format.specs.Unpacking.{cutoutCount, tablesHold, palettesReach}
 use Rattle.crn_format.specs.declared.Header.{Header}
+use Rattle.crn_format.specs.declared.Looked.{Looked}
 use Rattle.crn_format.specs.declared.Record.{Record}
 use Rattle.crn_blocks.specs.Sheet.{In, standing}
-use Rattle.crn_decomp.specs.Look.{found, no}
-use Rattle.crn_decomp.specs.declared.header_look.Looked.{Looked}
-use Rattle.crn_opening.specs.Opens.{closed, Opens}
+use Rattle.crn_opening.specs.Opens.{closed, toOpened, buffersOf, Opens}
 use Rattle.crn_sizes.specs.Sizes.{levelSizes}
 use Rattle.crn_sizes.specs.declared.LevelSizes.{LevelSizes}
 use Rattle.crn_levels.specs.Several.{severalOf, Gives}
@@ -22,7 +23,7 @@ use Rattle.crunch_abi.specs.Sizes.{paletteWords}
 use Rattle.crn_laws.specs.Scripts.{Draws}
 use Rattle.crn_laws.specs.Levels.{Given, gridIn, kindIn, segmentIn, unpackingIn, Passes, ScriptOf, symbolsOf, allowed, Tries}
 use Rattle.crn_laws.specs.Blocks.{blocksBy}
-use Rattle.crn_laws_total.specs.Refusals.{among, openingRefusals, levelRefusals}
+use Rattle.crn_laws_total.specs.Refusals.{among, openingRefusals, afterLookRefusals, levelRefusals}
 use Rattle.crn_laws_total.specs.Ends.{Open, Shut, Accepted, Declined, bytesOf, behind, ownOf, sumOf, SeveralEnds}
 use Rattle.picture.specs.Kinds.{goesOut}
 use Rattle.picture.specs.Writing.{writing}
@@ -31,7 +32,7 @@ use Rattle.picture.specs.declared.Needed.{Needed}
 use Rattle.dds.specs.Header.{ddsOf}
 use Rattle.law_containers.specs.Standing.{Fair, Checked, Writable, earlyNumbers, levelNumbers, Untouched, Zeroed}
 use Rattle.law_containers.specs.Dds.{planOf, Whole}
-use Rattle.crn_promises.specs.Calls.{OpenCall, LevelCall, LevelsCall, DdsCall, answerIn, afterIn, levelOf, sumsIn, stopIn}
+use Rattle.crn_promises.specs.Calls.{OpenCall, LoadCall, LevelCall, LevelsCall, DdsCall, answerIn, afterIn, levelOf, sumsIn, stopIn}
 
 -- ---- 1. Total. "Each call ends, checks its own arguments, and answers with blocks or with a numbered refusal." That a call ends and
 -- asks nothing is what a proved function without `requires` is; how it ends:
@@ -258,3 +259,49 @@ pub record BytesTotal (h : Header) (a : Needed) : Type 0 where
   pub format : (a .refusal ≡ 16) ↔ ((withinLimits h ≡ true) × (goesOut (h .format) ≡ false))
   pub told : a .refusal ≡ 0 → a .bytes ≡ ddsOf h .plan .total
   pub nothing : (a .refusal ≡ 0 → ⊥) → a .bytes ≡ 0
+
+-- ---- request 2, opening in two calls: the look, and a load by its record
+
+-- "reading only the first bytes": where these are a file's first bytes, 122 of them or more (or all of a shorter one), and n is how many it
+-- has, the answer is the look's at that file
+abbrev pub HeadTotal : List ℕ → ℕ → Looked → Type 0
+HeadTotal head n a = (file : List ℕ) (k : ℕ) → headBytes ≤ k → head ≡ take k file → n ≡ length file → LookTotal file a
+
+-- the same: the answer and all that is left are the definition's; where record and file disagree nothing is written that was lent
+pub record LoadSame (c : LoadCall) : Type 0 where
+  pub leaves : c .after ≡ buffersOf (loading (c .header) (c .file) (c .lent))
+  pub alike : agrees (c .header) (c .file) ≡ true → c .answer ≡ toOpened (loading (c .header) (c .file) (c .lent))
+  pub apart : agrees (c .header) (c .file) ≡ false
+      → (c .answer .refusal ≡ 17) × ((c .answer .at ≡ 0) × ((c .answer .file .header ≡ emptyHeader) × (c .left ≡ c .had)))
+
+-- total: "17 .. comes first in the load, palettes untouched"; then 4 and 5, with the palettes untouched, and 6 to 9, with all of them zero
+pub record LoadTotal (c : LoadCall) : Type 0 where
+  pub number : (c .answer .refusal ≡ 0) ⊎ ((c .answer .refusal ≡ 17) ⊎ (among (c .answer .refusal) afterLookRefusals ≡ true))
+  pub accepted : c .answer .refusal ≡ 0
+      → (c .answer .at ≡ 0) × ((c .answer .file .header ≡ c .header) × Open (c .header) (c .lent) (c .after))
+  pub disagrees : c .answer .refusal ≡ 17 → (c .answer .at ≡ 0) × ((c .after ≡ c .lent) × (c .left ≡ c .had))
+  pub refused : among (c .answer .refusal) afterLookRefusals ≡ true
+      → (c .answer ≡ closed (c .answer .refusal) (c .answer .at)) × Shut (c .lent) (c .after) (c .answer .refusal) (c .answer .at)
+
+-- exact: "17, record and file disagree (also where the look refuses the file)". The record agrees where it is, in every field, what the
+-- look finds in this file
+abbrev pub LoadExact : LoadCall → Type 0
+LoadExact c = (c .answer .refusal ≡ 17) ↔ (lookOf (c .file) ≡ found (c .header) → ⊥)
+
+-- "One call after the other answers as the old opening did": a look at a file, a load of that file by what the look gave, and an opening
+-- of it with the same palettes. Where the look finds a header, the load answers as the opening and leaves the same; where it refuses, the
+-- opening does by the same number, and touches no palette
+pub record OneAfterTheOther (file : List ℕ) (a : Looked) (c : LoadCall) (o : OpenCall) : Type 0 where
+  pub goes-on : a .refusal ≡ 0 → (c .answer ≡ o .answer) × (c .after ≡ o .after)
+  pub refused : (a .refusal ≡ 0 → ⊥) → (o .answer ≡ closed (a .refusal) 0) × (o .after ≡ o .lent)
+
+abbrev pub TwoCalls : List ℕ → Looked → LoadCall → OpenCall → Type 0
+TwoCalls file a c o =
+    c .header ≡ a .header → c .file ≡ file → o .file ≡ file → o .lent ≡ c .lent → OneAfterTheOther file a c o
+
+-- what a load accepts is ready for its levels, and with the palettes' words that are told of the record no load is refused by 5
+abbrev pub LoadReady : LoadCall → Type 0
+LoadReady c = c .answer .refusal ≡ 0 → Ready (c .answer .file) (c .after)
+
+abbrev pub LoadTold : LoadCall → Type 0
+LoadTold c = Words (c .header) (c .lent) → c .answer .refusal ≡ 5 → ⊥

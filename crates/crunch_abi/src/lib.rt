@@ -3,13 +3,14 @@
 ghost use mathlib.Core.Path.{_≡_};
 ghost use Rattle.crn_format.specs.Opening.{opening as «openingOf»};
 ghost use Rattle.crn_formats.specs.Lent.{lentOf};
-ghost use Rattle.crn_decomp.specs.Look.{lookOf};
+ghost use Rattle.crn_format.specs.Look.{lookAt, lookOf};
 ghost use Rattle.crn_opening.specs.Opens.{openedBy, Opens};
-use crn_decomp::Looked;
+use crn_format::Looked;
 use crunch::OpenedHeader;
 
 mod containers; // DDS files written
 mod level; // a level unpacked
+mod loading; // the palettes of a file that was looked at
 mod sizes; // the sizes of a host's buffers
 mod version; // the version of the exports
 
@@ -22,6 +23,7 @@ pub use crunch::Written;
 pub use level::Answer;
 pub use level::crunch_unpack_level_parts;
 pub use level::crunch_unpack_levels_parts;
+pub use loading::crunch_load_parts;
 pub use sizes::PaletteWords;
 pub use sizes::crunch_level_sizes;
 pub use sizes::crunch_palette_words;
@@ -32,7 +34,15 @@ pub use version::crunch_abi_version;
 pub extern "C" fn crunch_look(file: &[u8]) -> Looked
     ensures { λ r. ⌜ r ≡ lookOf (now (file .entry)) ⌝ }
 {
-    crn_decomp::look(file)
+    crunch::look(file)
+}
+
+// The same of a file of so many bytes that begins with these: its first 122 bytes, or all of a shorter one, are enough.
+#[no_mangle]
+pub extern "C" fn crunch_look_at(head: &[u8], length: usize) -> Looked
+    ensures { λ r. ⌜ r ≡ lookAt (now (head .entry)) length ⌝ }
+{
+    crunch::look_at(head, length)
 }
 
 // A file opened with four lent buffers, and its record by its parts: the header and the tables' counts in the answer, the tables' lengths in

@@ -1,5 +1,5 @@
 -- The header's and the data's size against the file's length.
-use Rattle.crn_format.specs.Header.{sizesHold}
+use Rattle.crn_format.specs.Header.{sizesIn}
 use Rattle.crn_formats.proofs.Joined.{grouped}
 use borrow.Author.Needs.{needs}
 use Rattle.crn_bounds.proofs.sizes_hold.Statement.{statement}
@@ -24,7 +24,7 @@ cast-result-4 : tie.Need-cast-result-4
 cast-result-4 c = search needs
 
 returns : tie.Need-returns
-unfolding sizesHold
+unfolding sizesIn
 returns c = simp grouped
 
 pub sizes-hold-spec : {M : Type 1} → statement M

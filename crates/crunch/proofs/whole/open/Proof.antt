@@ -16,7 +16,7 @@ same-length-4 : tie.Need-same-length-4
 same-length-4 c = search needs
 
 returns : tie.Need-returns
-returns c = c .before .before .before .before .before .before .before .before .before .before .open-into .ensures
+returns c = rw (c .together .ensures) (c .before .before .before .before .before .before .before .before .before .open-into .ensures)
 
 pub open-spec : {M : Type 1} → statement M
-open-spec = tie.close (tie.spec (λ _ _. tt) same-length same-length-2 same-length-3 same-length-4 returns)
+open-spec = tie.close (tie.spec (λ _ _. tt) (λ _ _. tt) same-length same-length-2 same-length-3 same-length-4 returns)

@@ -3,8 +3,8 @@ use native.Mathlib.Omega.{arith}
 use Rattle.crn_opening.proofs.Checks.{file-short, tables-inside}
 use Rattle.crn_opening.proofs.Opens.{closed-by, shut-by-tables, shut-by-palettes, streams-told}
 use borrow.Author.Needs.{needs}
-use Rattle.crn_opening.proofs.opening.load.Statement.{statement}
-use Rattle.crn_opening.proofs.opening.load.Tie as tie
+use Rattle.crn_opening.proofs.opening.read_streams.Statement.{statement}
+use Rattle.crn_opening.proofs.opening.read_streams.Tie as tie
 
 segment-requires : tie.Need-segment-requires
 segment-requires c κs = tables-inside (c .before .before .before .before .before .pre .0)
@@ -85,8 +85,8 @@ returns-3 c =
     streams-told _ _ _ (c .before .before .before .before .before .before .before .before .before .before .before .before .before .before .before .before .before .before .read-tables .result) _ _ _ _ _ (rw (c .before .before .before .before .before .before .before .before .before .before .before .before .before .before .before .before .before .before .before .before .before .before .before .before .segment .ensures .0) at (c .before .before .before .before .before .before .before .before .before .before .before .before .before .before .before .before .before .before .read-tables .ensures)) (c .before .before .before .before .before .before .before .before .before .before .before .before .before .before .before .before .if1 .left)
     (c .before .before .before .before .before .before .before .before .before .before .before .read-palettes .ensures) (c .before .if2 .left)
 
-pub load-spec : {M : Type 1} → statement M
-load-spec =
+pub read-streams-spec : {M : Type 1} → statement M
+read-streams-spec =
     tie.close
     (tie.spec
     segment-requires
