@@ -18,35 +18,53 @@ RUST_TABLES = dict(zip(reference.TABLES, ['chunk', 'color_endpoint_delta', 'colo
 
 
 # a file opened with lent words by part, all of them the fill byte; edits (field, index, value); calls (level, pitch, distance, budget,
-# destination length); dds: the destination length of each DDS call
-Case = collections.namedtuple('Case', 'file lent fill edits calls dds', defaults=[()])
+# destination length); dds: the destination length of each DDS call; loads (head, file length, edits)
+Case = collections.namedtuple('Case', 'file lent fill edits calls dds loads', defaults=[(), ()])
+
+
+def edit_bytes(edits):
+    return bytes([len(edits)]) + b''.join(struct.pack('<BII', *e) for e in edits)
 
 
 def bytes_of(cases):
     out = [b'CASE', struct.pack('<I', len(cases))]
     for c in cases:
-        out += [struct.pack('<I', len(c.file)), c.file, struct.pack('<4I', *(len(c.lent[p]) for p in reference.PARTS)), bytes([c.fill, len(c.edits)])]
-        out += [struct.pack('<BII', *e) for e in c.edits] + [bytes([len(c.calls)])] + [struct.pack('<IQQQI', *call) for call in c.calls]
-        out += [bytes([len(c.dds)])] + [struct.pack('<I', size) for size in c.dds]
+        out += [struct.pack('<I', len(c.file)), c.file, struct.pack('<4I', *(len(c.lent[p]) for p in reference.PARTS)), bytes([c.fill])]
+        out += [edit_bytes(c.edits), bytes([len(c.calls)])] + [struct.pack('<IQQQI', *call) for call in c.calls]
+        out += [bytes([len(c.dds)])] + [struct.pack('<I', size) for size in c.dds] + [bytes([len(c.loads)])]
+        out += [struct.pack('<I', len(head)) + head + struct.pack('<I', length) + edit_bytes(edits) for head, length, edits in c.loads]
     return b''.join(out)
+
+
+# The fields of edits that are numbers of the header, and those that are a palette's offset, size or count.
+NUMBERS = dict(enumerate(['width', 'height', 'levels', 'faces', 'format'], 1))
+NUMBERS |= dict(enumerate(['header_size', 'header_crc16', 'data_size', 'data_crc16', 'flags', 'reserved', 'userdata0', 'userdata1',
+                           'tables_size', 'tables_offset'], 21))
+PART_FIELDS = {first + k: (part, place) for first, place in [(31, 0), (35, 1), (6, 2)] for k, part in enumerate(reference.PARTS)}
 
 
 def edited(record, edits):
     """The record with the edits of docs/CASES.md."""
-    header = {name: list(v) if isinstance(v, list) else v for name, v in record[0].items()}
     tables = {t: (count, list(lengths)) for t, (count, lengths) in record[1].items()}
     for field, index, value in edits:
-        if 1 <= field <= 5:
-            header[['width', 'height', 'levels', 'faces', 'format'][field - 1]] = value
-        elif 6 <= field <= 9:
-            header[reference.PARTS[field - 6]][2] = value
-        elif field == 10 and index < 13:
-            header['offsets'][index] = value
-        elif 11 <= field <= 15:
+        if 11 <= field <= 15:
             tables[reference.TABLES[field - 11]] = value, tables[reference.TABLES[field - 11]][1]
         elif 16 <= field <= 20 and index < 8192:
             tables[reference.TABLES[field - 16]][1][index] = value % 256
-    return header, tables
+    return edited_header(record[0], edits), tables
+
+
+def edited_header(header, edits):
+    header = {name: list(v) if isinstance(v, list) else v for name, v in header.items()}
+    for field, index, value in edits:
+        if field in NUMBERS:
+            header[NUMBERS[field]] = value
+        elif field in PART_FIELDS:
+            part, place = PART_FIELDS[field]
+            header[part][place] = value
+        elif field == 10 and index < 13:
+            header['offsets'][index] = value
+    return header
 
 
 def record_of(case, opened):
@@ -55,19 +73,33 @@ def record_of(case, opened):
 
 
 def answers_of(case):
-    """What reference.py says of the opening, of each level call, and of each DDS call: what it answers, and what has to be lent."""
+    """What reference.py says of the opening, of each level call, of each DDS call (what it answers, and what has to be lent), and of each
+    load call (the look, and the load)."""
     opened = reference.opening(case.file, case.lent)
     record = record_of(case, opened) if case.calls or case.dds else None
     levels = [reference.unpacking(record, case.file, opened[4], *call[:4], bytes([case.fill]) * call[4]) for call in case.calls]
     dds = [reference.dds_out(record, case.file, opened[4], bytes([case.fill]) * size) for size in case.dds]
-    return opened, levels, [(said, reference.dds_bytes(record[0])) for said in dds]
+    return opened, levels, [(said, reference.dds_bytes(record[0])) for said in dds], [load_answer(case, *load) for load in case.loads]
 
 
-def lines_of(opened, levels, dds):
+def load_answer(case, head, length, edits):
+    looked = reference.look(head, length)
+    return looked, reference.loading(edited_header(looked[1] or reference.EMPTY, edits), case.file, case.lent)
+
+
+def opened_line(word, opened):
     number, _, header, tables, buffers = opened
-    lines = ['open %d %s %s' % (number, reference.fnv(reference.palette_bytes(buffers)), reference.fnv(reference.record_bytes(header, tables)))]
+    hashes = reference.fnv(reference.palette_bytes(buffers)), reference.fnv(reference.record_bytes(header, tables))
+    return '%s %d %s %s' % (word, number, *hashes)
+
+
+def lines_of(opened, levels, dds, loads):
+    lines = [opened_line('open', opened)]
     lines += ['level %d %d %d %d %s' % (no, symbols, cutouts, left, reference.fnv(dst)) for no, symbols, cutouts, left, _, dst in levels]
-    return lines + ['dds %d %d %d %d %d %d %s %d %d' % (*said[:6], reference.fnv(said[6]), *needed) for said, needed in dds]
+    lines += ['dds %d %d %d %d %d %d %s %d %d' % (*said[:6], reference.fnv(said[6]), *needed) for said, needed in dds]
+    for (number, header), loaded in loads:
+        lines += ['look %d %s' % (number, reference.fnv(reference.header_bytes(header or reference.EMPTY))), opened_line('load', loaded)]
+    return lines
 
 
 def held_to_the_program(cases, lines):

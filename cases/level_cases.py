@@ -115,7 +115,7 @@ def faults(record, file):
                       [(11 + k, 0, 8192), (16 + k, 8191, 17)], [(11 + k, 0, 3), (16 + k, 0, 1), (16 + k, 1, 1), (16 + k, 2, 257)], [(11 + k, 0, 1), (16 + k, 0, 0)],
                       [(11 + k, 0, 2), (16 + k, 0, 2), (16 + k, 1, 2)]):
             yield edits
-    yield [(0, 0, 1), (21, 0, 1), (255, 0, 1)]
+    yield [(0, 0, 1), (39, 0, 1), (255, 0, 1)]
     yield [(1, 0, 0), (11, 0, 8193)]                                    # 2 before 6
     yield [(11, 0, 8193), (3, 0, 1)]                                    # 6 before 10 (the call asks for level 1 too)
     yield [(6 if 'c' in planes else 8, 0, 8192), (10, 0, len(file))]    # 4 before 5

@@ -1,11 +1,14 @@
 #!/usr/bin/env python3
 """opens.py SHARED COUNT: COUNT files, whole and damaged, opened by the proved program (target/bin/crn_cases, as `rt check crn_cases` leaves it), by reference.py and by
-the Rust, and where they differ. stored.py has the gate's cases of opening from here."""
+the Rust, and where they differ; and each opened in two calls by the first two, with its own record and with another. stored.py has the
+gate's cases of opening from here."""
+import collections
 import os
 import random
 import sys
 
 import files
+import load_cases
 import reference
 
 
@@ -38,27 +41,31 @@ def stored(mkcrn):
 
 
 def scaled(mkcrn, count):
-    rng = random.Random(count)
+    rng, of_loads, last = random.Random(count), random.Random('loads %d' % count), b''
     for k in range(count):
         file, _ = mkcrn.make(rng.getrandbits(40), width=rng.randint(1, 12), height=rng.randint(1, 12), levels=rng.choice([1, 1, 2, 3]))
         if k % 2:
             file = files.damaged(rng, file)
         if len(file) > 262144:
             continue
-        yield file, files.exact(file, rng.randrange(256))
+        yield file, files.exact(file, rng.randrange(256)), [load_cases.own(file), load_cases.random_load(of_loads, file, last)]
+        last = file
 
 
-def as_case(file, lent):
+def as_case(file, lent, loads=()):
     fill = next((lent[p][0] for p in reference.PARTS if lent[p]), 0)
-    return files.Case(file, lent, fill, [], [])
+    return files.Case(file, lent, fill, [], [], loads=loads)
 
 
 def main():
     shared, count = os.path.abspath(sys.argv[1]), int(sys.argv[2])
     cases = [as_case(*c) for c in scaled(files.generator(shared), count)]
     answers = [files.answers_of(c) for c in cases]
-    faults = files.compare_openings(shared, [(c.file, opened) for c, (opened, _, _) in zip(cases, answers)])
+    faults = files.compare_openings(shared, [(c.file, a[0]) for c, a in zip(cases, answers)])
     print('%d cases; %d answers of the Rust differ by no listed row' % (len(cases), faults))
+    loads = collections.Counter((k, loaded[0]) for a in answers for k, (_, loaded) in enumerate(a[3]))
+    for k, what in enumerate(['its own record', 'another']):
+        print('loads with %s: %s' % (what, ', '.join('%d: %d' % (number, n) for (j, number), n in sorted(loads.items()) if j == k)))
     same = files.held_to_the_program(cases, [line for a in answers for line in files.lines_of(*a)])
     sys.exit(bool(faults) or not same)
 

@@ -1,4 +1,4 @@
-"""A plain reading of document 01, written from its text alone, and of request 1 in document 02, from its text and the choices of
+"""A plain reading of document 01, written from its text alone, and of requests 1 and 2 in document 02, from their text and the choices of
 docs/DECISIONS.md: neither from the proved code nor from the Rust.
 
 It makes the answers that the stored cases are held to, and stands beside the Rust in the comparisons at scale. Speed matters little here;
@@ -188,24 +188,42 @@ def within_limits(h):
 TABLES = ['chunk'] + PARTS
 
 
+def look(head, length):
+    """(refusal, header) of a file of so many bytes that begins with the head; bytes past the head's end count as 0. The header is None
+    where it is refused."""
+    if length < 74 or head[:2] != b'\x48\x78':
+        return 1, None
+    h = header_of(head.ljust(122, b'\0'))
+    if not within_limits(h):
+        return 2, None
+    if h['header_size'] < 70 + 4 * h['levels'] or h['header_size'] > length or h['data_size'] > length or length > 0xffffffff:
+        return 3, None
+    return 0, h
+
+
+def shut(lent, number, bit=0):
+    return number, bit, None, None, lent
+
+
 def opening(file, lent):
     """(refusal, bit, header, tables, buffers): the header and the tables None where refused. `lent`: the words of the four buffers, by part."""
-    def shut(number, bit=0, buffers=lent):
-        return number, bit, None, None, buffers
+    number, h = look(file, len(file))
+    return shut(lent, number) if number else after_the_look(h, file, lent)
 
-    if len(file) < 74 or file[:2] != b'\x48\x78':
-        return shut(1)
-    h = header_of(file)
-    if not within_limits(h):
-        return shut(2)
-    if h['header_size'] < 70 + 4 * h['levels'] or h['header_size'] > len(file) or h['data_size'] > len(file) or len(file) > 0xffffffff:
-        return shut(3)
+
+def loading(header, file, lent):
+    """As opening, with the look's record handed in: 17 where it is not what the look says of this file, "also where the look refuses"."""
+    number, h = look(file, len(file))
+    return shut(lent, 17) if number or header != h else after_the_look(h, file, lent)
+
+
+def after_the_look(h, file, lent):
     read = [p for p in PARTS if h[p[0] + 'e'][2] > 0]
     for offset, size in [(h['tables_offset'], h['tables_size'])] + [h[p][:2] for p in read]:
         if size == 0 or offset + size > len(file):
-            return shut(4)
+            return shut(lent, 4)
     if any(len(lent[p]) < h[p][2] * (3 if p == 'as' else 1) for p in read):
-        return shut(5)
+        return shut(lent, 5)
     try:
         reader = Reader(file[h['tables_offset']:h['tables_offset'] + h['tables_size']])
         tables = {name: table(reader) if name == 'chunk' or name in read else [] for name in TABLES}
@@ -215,7 +233,7 @@ def opening(file, lent):
             words = PALETTES[p](Reader(file[offset:offset + size]), count)
             buffers[p] = words + list(lent[p][len(words):])
     except Refusal as no:
-        return shut(no.number, no.bit, {p: [0] * len(lent[p]) for p in PARTS})
+        return shut({p: [0] * len(lent[p]) for p in PARTS}, no.number, no.bit)
     return 0, 0, h, tables, buffers
 
 
@@ -225,10 +243,13 @@ TILE_COUNTS = [1, 2, 2, 3, 3, 3, 3, 4]
 TILES = ['0000', '0011', '0101', '0012', '1200', '0102', '1020', '0123']      # at left-top, right-top, left-bottom, right-bottom
 
 
+EMPTY = header_of(bytes(74))          # of a refusal
+
+
 def handed(header, tables):
     """The record as a level takes it: the header's fields, and each table's count beside its 8,192 lengths. All zero where opening refused."""
     if header is None:
-        header, tables = header_of(bytes(74)), {t: [] for t in TABLES}
+        header, tables = EMPTY, {t: [] for t in TABLES}
     return header, {t: (len(tables[t]), tables[t] + [0] * (8192 - len(tables[t]))) for t in TABLES}
 
 
@@ -431,14 +452,19 @@ def palette_bytes(buffers):
     return b''.join(w.to_bytes(4 if p[0] == 'c' else 2, 'little') for p in PARTS for w in buffers[p])
 
 
-def record_bytes(header, tables):
-    """The record's fields in their order, 4 little-endian bytes each; each table's count and its 8,192 lengths, a byte each. All zero where refused."""
-    if header is None:
-        return bytes(4 * (13 + 12 + 2 + 13) + 5 * (4 + 8192))
+def header_bytes(header):
+    """The header's fields in their order, 4 little-endian bytes each."""
     numbers = [header[name] for name, _ in FIELDS] + [x for p in PARTS for x in header[p]]
     numbers += [header['tables_size'], header['tables_offset']] + header['offsets']
-    out = b''.join(n.to_bytes(4, 'little') for n in numbers)
-    return out + b''.join(len(tables[t]).to_bytes(4, 'little') + bytes(tables[t]) + bytes(8192 - len(tables[t])) for t in TABLES)
+    return b''.join(n.to_bytes(4, 'little') for n in numbers)
+
+
+def record_bytes(header, tables):
+    """The header; each table's count in 4 bytes and its 8,192 lengths, a byte each. All zero where refused."""
+    if header is None:
+        header, tables = EMPTY, {t: [] for t in TABLES}
+    sent = [tables[t] for t in TABLES]
+    return header_bytes(header) + b''.join(len(s).to_bytes(4, 'little') + bytes(s) + bytes(8192 - len(s)) for s in sent)
 
 
 def fnv(data):

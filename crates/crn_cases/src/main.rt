@@ -1,5 +1,5 @@
-// Opens files, unpacks their levels and writes them as DDS files, case by case from standard input, and writes a line for each call.
-// docs/CASES.md has the format.
+// Opens files, unpacks their levels, writes them as DDS files, and opens them in two calls, case by case from standard input, and writes a
+// line for each call. docs/CASES.md has the format.
 
 ghost use mathlib.Core.Path.{_≡_};
 ghost use Prim.Native.Nat.{_+_, _<_, _≤_};
@@ -23,6 +23,12 @@ fn file_space() -> [u8; 262144]
     ensures { λ r. ⌜ 262144 ≡ length r ⌝ }
 {
     [0; 262144]
+}
+
+fn head_space() -> [u8; 4096]
+    ensures { λ r. ⌜ 4096 ≡ length r ⌝ }
+{
+    [0; 4096]
 }
 
 fn color_space() -> [u32; 8192]
@@ -201,8 +207,14 @@ fn hash_after_space(h: u64) {
     io::print_hex(STDOUT_FILENO, h, 16);
 }
 
-// What opening answered, what the four buffers hold, and the record.
+fn number_after_space(n: u64) {
+    text(b" ");
+    io::print_decimal(STDOUT_FILENO, n);
+}
+
+// What opening or loading answered, what the four buffers hold, and the record.
 fn line(
+    word: &[u8],
     o: Opened,
     color_endpoints: &[u32],
     color_selectors: &[u32],
@@ -214,16 +226,11 @@ fn line(
     k = hash_of32(color_selectors, k);
     k = hash_of16(alpha_endpoints, k);
     k = hash_of16(alpha_selectors, k);
-    text(b"open ");
-    io::print_decimal(STDOUT_FILENO, o.refusal as u64);
+    text(word);
+    number_after_space(o.refusal as u64);
     hash_after_space(k);
     hash_after_space(hash_of_record(r));
     text(b"\n");
-}
-
-fn number_after_space(n: u64) {
-    text(b" ");
-    io::print_decimal(STDOUT_FILENO, n);
 }
 
 // What unpacking a level answered, what is left of the budget, and what the destination holds.
@@ -407,20 +414,114 @@ fn dds_call(
     0
 }
 
-// The next call, of a DDS file or of a level.
-fn one_call(
-    dds: bool,
+// What the look at a file of `length` bytes that begins with the head answers, and its header.
+fn look_and_say(head: &[u8], length: usize) -> Header {
+    let l = crunch::look_at(head, length);
+    let header = l.header;
+    text(b"look");
+    number_after_space(l.refusal as u64);
+    hash_after_space(hash_of_header(header, fnv::OFFSET));
+    text(b"\n");
+    header
+}
+
+// A file loaded with buffers of just the lent lengths, each word filled first.
+fn load_filled(
+    header: Header,
+    bytes: &[u8],
+    color_endpoints: &mut [u32],
+    color_selectors: &mut [u32],
+    alpha_endpoints: &mut [u16],
+    alpha_selectors: &mut [u16],
+    value: u8,
+) {
+    fill_all(
+        color_endpoints,
+        color_selectors,
+        alpha_endpoints,
+        alpha_selectors,
+        value,
+    );
+    let o = crunch::load(
+        header,
+        bytes,
+        color_endpoints,
+        color_selectors,
+        alpha_endpoints,
+        alpha_selectors,
+    );
+    line(
+        b"load",
+        o,
+        color_endpoints,
+        color_selectors,
+        alpha_endpoints,
+        alpha_selectors,
+    );
+}
+
+// The next load call, or 1 or 2, as for a case. The edits are a record's; the load takes the header of it.
+fn load_call(
     file: Record,
     bytes: &[u8],
-    color_endpoints: &[u32],
-    color_selectors: &[u32],
-    alpha_endpoints: &[u16],
-    alpha_selectors: &[u16],
+    color_endpoints: &mut [u32],
+    color_selectors: &mut [u32],
+    alpha_endpoints: &mut [u16],
+    alpha_selectors: &mut [u16],
+    value: u8,
+) -> u32 {
+    let mut head = head_space();
+    let t = take_sized(&mut head);
+    let n = t.size;
+    if t.ended != 0 {
+        return t.ended;
+    }
+    let mut number = [0u8; 4];
+    if !take(&mut number) {
+        return 1;
+    }
+    let header = look_and_say(&head[..n], crn_utils::little32(&number, 0) as usize);
+    let tables = file.tables;
+    let e = take_edits(Record {
+        header: header,
+        tables: tables,
+    });
+    if !e.whole {
+        return 1;
+    }
+    load_filled(
+        e.file.header,
+        bytes,
+        color_endpoints,
+        color_selectors,
+        alpha_endpoints,
+        alpha_selectors,
+        value,
+    );
+    0
+}
+
+// What the calls of a case are of.
+enum Kind {
+    Level,
+    Dds,
+    Load,
+}
+
+// The next call.
+fn one_call(
+    kind: Kind,
+    file: Record,
+    bytes: &[u8],
+    color_endpoints: &mut [u32],
+    color_selectors: &mut [u32],
+    alpha_endpoints: &mut [u16],
+    alpha_selectors: &mut [u16],
     value: u8,
     space: &mut [u8],
 ) -> u32 {
-    if dds {
-        return dds_call(
+    match kind {
+        Kind::Level => level_call(
             file,
             bytes,
             color_endpoints,
@@ -429,29 +530,38 @@ fn one_call(
             alpha_selectors,
             value,
             space,
-        );
+        ),
+        Kind::Dds => dds_call(
+            file,
+            bytes,
+            color_endpoints,
+            color_selectors,
+            alpha_endpoints,
+            alpha_selectors,
+            value,
+            space,
+        ),
+        Kind::Load => load_call(
+            file,
+            bytes,
+            color_endpoints,
+            color_selectors,
+            alpha_endpoints,
+            alpha_selectors,
+            value,
+        ),
     }
-    level_call(
-        file,
-        bytes,
-        color_endpoints,
-        color_selectors,
-        alpha_endpoints,
-        alpha_selectors,
-        value,
-        space,
-    )
 }
 
 // As many calls as the next byte says.
 fn calls(
-    dds: bool,
+    kind: Kind,
     file: Record,
     bytes: &[u8],
-    color_endpoints: &[u32],
-    color_selectors: &[u32],
-    alpha_endpoints: &[u16],
-    alpha_selectors: &[u16],
+    color_endpoints: &mut [u32],
+    color_selectors: &mut [u32],
+    alpha_endpoints: &mut [u16],
+    alpha_selectors: &mut [u16],
     value: u8,
     space: &mut [u8],
 ) -> u32 {
@@ -463,7 +573,7 @@ fn calls(
     let mut k: u32 = 0;
     while k < n {
         let ended = one_call(
-            dds,
+            kind,
             file,
             bytes,
             color_endpoints,
@@ -485,10 +595,10 @@ fn calls(
 fn levels(
     o: Opened,
     bytes: &[u8],
-    color_endpoints: &[u32],
-    color_selectors: &[u32],
-    alpha_endpoints: &[u16],
-    alpha_selectors: &[u16],
+    color_endpoints: &mut [u32],
+    color_selectors: &mut [u32],
+    alpha_endpoints: &mut [u16],
+    alpha_selectors: &mut [u16],
     value: u8,
     space: &mut [u8],
 ) -> u32 {
@@ -498,7 +608,7 @@ fn levels(
     }
     let file = e.file;
     let ended = calls(
-        false,
+        Kind::Level,
         file,
         bytes,
         color_endpoints,
@@ -512,8 +622,45 @@ fn levels(
         return ended;
     }
     calls(
-        true,
+        Kind::Dds,
         file,
+        bytes,
+        color_endpoints,
+        color_selectors,
+        alpha_endpoints,
+        alpha_selectors,
+        value,
+        space,
+    )
+}
+
+// The level calls and the DDS calls, then the load calls.
+fn all_calls(
+    o: Opened,
+    bytes: &[u8],
+    color_endpoints: &mut [u32],
+    color_selectors: &mut [u32],
+    alpha_endpoints: &mut [u16],
+    alpha_selectors: &mut [u16],
+    value: u8,
+    space: &mut [u8],
+) -> u32 {
+    let ended = levels(
+        o,
+        bytes,
+        color_endpoints,
+        color_selectors,
+        alpha_endpoints,
+        alpha_selectors,
+        value,
+        space,
+    );
+    if ended != 0 {
+        return ended;
+    }
+    calls(
+        Kind::Load,
+        o.file,
         bytes,
         color_endpoints,
         color_selectors,
@@ -539,6 +686,7 @@ fn open_and_say(
         alpha_selectors,
     );
     line(
+        b"open",
         o,
         color_endpoints,
         color_selectors,
@@ -573,7 +721,7 @@ fn open_filled(
     )
 }
 
-fn open_and_unpack(
+fn open_and_call(
     file: &[u8],
     color_endpoints: &mut [u32],
     color_selectors: &mut [u32],
@@ -590,7 +738,7 @@ fn open_and_unpack(
         alpha_selectors,
         value,
     );
-    levels(
+    all_calls(
         o,
         file,
         color_endpoints,
@@ -696,7 +844,7 @@ fn with_buffers(
     let mut color_selectors = color_space();
     let mut alpha_endpoints = alpha_space();
     let mut alpha_selectors = selector_space();
-    open_and_unpack(
+    open_and_call(
         file,
         &mut color_endpoints[..a],
         &mut color_selectors[..b],
@@ -728,26 +876,37 @@ fn with_lent(file: &[u8], l: Lent, space: &mut [u8]) -> u32 {
     with_buffers(file, a, b, c, d, l.value, space)
 }
 
-// Whether standard input has so many bytes for the start of the buffer.
-fn take_first(buffer: &mut [u8], n: usize) -> bool
-    requires { ⌜ n ≤ length (now buffer) ⌝ }
+// How many bytes were taken into a buffer; or 1 or 2, as for a case.
+struct Taken {
+    ended: u32,
+    size: usize,
+}
+
+// A length, and so many bytes for the start of the buffer.
+fn take_sized(buffer: &mut [u8]) -> Taken
+    ensures { λ r. ⌜ r .size ≤ length (now (buffer .entry)) ⌝ }
 {
-    take(&mut buffer[..n])
+    let mut head = [0u8; 4];
+    if !take(&mut head) {
+        return Taken { ended: 1, size: 0 };
+    }
+    let n = crn_utils::little32(&head, 0) as usize;
+    if buffer.len() < n {
+        return Taken { ended: 2, size: 0 };
+    }
+    if !take(&mut buffer[..n]) {
+        return Taken { ended: 1, size: 0 };
+    }
+    Taken { ended: 0, size: n }
 }
 
 // The next case: 0 where it was done, 1 where the input ends too early, 2 where something is too large.
 fn one(space: &mut [u8]) -> u32 {
-    let mut head = [0u8; 4];
-    if !take(&mut head) {
-        return 1;
-    }
-    let size = crn_utils::little32(&head, 0) as usize;
-    if 262144 < size {
-        return 2;
-    }
     let mut file = file_space();
-    if !take_first(&mut file, size) {
-        return 1;
+    let t = take_sized(&mut file);
+    let size = t.size;
+    if t.ended != 0 {
+        return t.ended;
     }
     let l = take_lent();
     if l.ended != 0 {

@@ -13,31 +13,37 @@ use Rattle.crn_format.specs.declared.Record.{Record}
 abbrev pub chosen : ℕ → ℕ → ℕ → ℕ → ℕ
 chosen field this value old = pick (eqb field this) value old
 
-abbrev pub partEdited : Part → ℕ → ℕ → ℕ → Part
-partEdited p this field value = record { offset = p .offset; size = p .size; count = chosen field this value (p .count) }
+-- `offset`, `size` and `count` are the fields of this part
+abbrev pub partEdited : Part → ℕ → ℕ → ℕ → ℕ → ℕ → Part
+partEdited p offset size count field value =
+    record {
+      offset = chosen field offset value (p .offset);
+      size = chosen field size value (p .size);
+      count = chosen field count value (p .count);
+    }
 
 abbrev pub headerEdited : Header → ℕ → ℕ → ℕ → Header
 headerEdited h field index value =
     record {
-      «header_size» = h .«header_size»;
-      «header_crc16» = h .«header_crc16»;
-      «data_size» = h .«data_size»;
-      «data_crc16» = h .«data_crc16»;
+      «header_size» = chosen field 21 value (h .«header_size»);
+      «header_crc16» = chosen field 22 value (h .«header_crc16»);
+      «data_size» = chosen field 23 value (h .«data_size»);
+      «data_crc16» = chosen field 24 value (h .«data_crc16»);
       width = chosen field 1 value (h .width);
       height = chosen field 2 value (h .height);
       levels = chosen field 3 value (h .levels);
       faces = chosen field 4 value (h .faces);
       format = chosen field 5 value (h .format);
-      flags = h .flags;
-      reserved = h .reserved;
-      userdata0 = h .userdata0;
-      userdata1 = h .userdata1;
-      «color_endpoints» = partEdited (h .«color_endpoints») 6 field value;
-      «color_selectors» = partEdited (h .«color_selectors») 7 field value;
-      «alpha_endpoints» = partEdited (h .«alpha_endpoints») 8 field value;
-      «alpha_selectors» = partEdited (h .«alpha_selectors») 9 field value;
-      «tables_size» = h .«tables_size»;
-      «tables_offset» = h .«tables_offset»;
+      flags = chosen field 25 value (h .flags);
+      reserved = chosen field 26 value (h .reserved);
+      userdata0 = chosen field 27 value (h .userdata0);
+      userdata1 = chosen field 28 value (h .userdata1);
+      «color_endpoints» = partEdited (h .«color_endpoints») 31 35 6 field value;
+      «color_selectors» = partEdited (h .«color_selectors») 32 36 7 field value;
+      «alpha_endpoints» = partEdited (h .«alpha_endpoints») 33 37 8 field value;
+      «alpha_selectors» = partEdited (h .«alpha_selectors») 34 38 9 field value;
+      «tables_size» = chosen field 29 value (h .«tables_size»);
+      «tables_offset» = chosen field 30 value (h .«tables_offset»);
       «level_offsets» = pick (eqb field 10) (set (h .«level_offsets») index value) (h .«level_offsets»);
     }
 

@@ -18,13 +18,14 @@ fn chosen(field: u32, this: u32, value: u32, old: u32) -> u32
     if field == this { value } else { old }
 }
 
-fn edited_part(p: Part, this: u32, field: u32, value: u32) -> Part
-    ensures { λ r. ⌜ r ≡ partEdited p this field value ⌝ }
+// `offset`, `size` and `count` are the fields of this part.
+fn edited_part(p: Part, offset: u32, size: u32, count: u32, field: u32, value: u32) -> Part
+    ensures { λ r. ⌜ r ≡ partEdited p offset size count field value ⌝ }
 {
     Part {
-        offset: p.offset,
-        size: p.size,
-        count: chosen(field, this, value, p.count),
+        offset: chosen(field, offset, value, p.offset),
+        size: chosen(field, size, value, p.size),
+        count: chosen(field, count, value, p.count),
     }
 }
 
@@ -47,25 +48,25 @@ fn edited_header(h: Header, field: u32, index: usize, value: u32) -> Header
     let offsets = h.level_offsets;
     let level_offsets = edited_offsets(offsets, field, index, value);
     Header {
-        header_size: h.header_size,
-        header_crc16: h.header_crc16,
-        data_size: h.data_size,
-        data_crc16: h.data_crc16,
+        header_size: chosen(field, 21, value, h.header_size),
+        header_crc16: chosen(field, 22, value, h.header_crc16),
+        data_size: chosen(field, 23, value, h.data_size),
+        data_crc16: chosen(field, 24, value, h.data_crc16),
         width: chosen(field, 1, value, h.width),
         height: chosen(field, 2, value, h.height),
         levels: chosen(field, 3, value, h.levels),
         faces: chosen(field, 4, value, h.faces),
         format: chosen(field, 5, value, h.format),
-        flags: h.flags,
-        reserved: h.reserved,
-        userdata0: h.userdata0,
-        userdata1: h.userdata1,
-        color_endpoints: edited_part(h.color_endpoints, 6, field, value),
-        color_selectors: edited_part(h.color_selectors, 7, field, value),
-        alpha_endpoints: edited_part(h.alpha_endpoints, 8, field, value),
-        alpha_selectors: edited_part(h.alpha_selectors, 9, field, value),
-        tables_size: h.tables_size,
-        tables_offset: h.tables_offset,
+        flags: chosen(field, 25, value, h.flags),
+        reserved: chosen(field, 26, value, h.reserved),
+        userdata0: chosen(field, 27, value, h.userdata0),
+        userdata1: chosen(field, 28, value, h.userdata1),
+        color_endpoints: edited_part(h.color_endpoints, 31, 35, 6, field, value),
+        color_selectors: edited_part(h.color_selectors, 32, 36, 7, field, value),
+        alpha_endpoints: edited_part(h.alpha_endpoints, 33, 37, 8, field, value),
+        alpha_selectors: edited_part(h.alpha_selectors, 34, 38, 9, field, value),
+        tables_size: chosen(field, 29, value, h.tables_size),
+        tables_offset: chosen(field, 30, value, h.tables_offset),
         level_offsets: level_offsets,
     }
 }

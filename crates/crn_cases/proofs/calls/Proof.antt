@@ -1,4 +1,4 @@
--- `calls`. Invariant: no more calls than there are, and the space keeps its length.
+-- `calls`. Invariant: no more calls than there are, and the palettes and the space keep their lengths.
 use Prim.Native.Nat.{_≤_, _-_}
 use mathlib.Core.Path.{_≡_}
 use lib.ListN.{length}
@@ -7,12 +7,12 @@ use Rattle.crn_cases.proofs.calls.Statement.{statement}
 use Rattle.crn_cases.proofs.calls.Tie as tie
 
 abbrev Inv-loop : tie.InvT-loop
-Inv-loop dds file bytes color-endpoints color-selectors alpha-endpoints alpha-selectors value space₀ n k₀ space k =
-    (length space ≡ length space₀) × (k ≤ n)
+Inv-loop kind file bytes ce₀ cs₀ ae₀ al₀ value space₀ n k₀ ce cs ae al space k =
+    ((length ce ≡ length ce₀) × (length cs ≡ length cs₀) × (length ae ≡ length ae₀) × (length al ≡ length al₀))
+    × (length space ≡ length space₀) × (k ≤ n)
 
 abbrev μ-loop : tie.MeasureT-loop
-μ-loop dds file bytes color-endpoints color-selectors alpha-endpoints alpha-selectors value space₀ n k₀ space k =
-    n - k
+μ-loop kind file bytes ce₀ cs₀ ae₀ al₀ value space₀ n k₀ ce cs ae al space k = n - k
 
 slice-aggregate-take : tie.Need-slice-aggregate-take Inv-loop μ-loop
 slice-aggregate-take c = search needs
@@ -38,6 +38,18 @@ one-call-requires c κs = search needs
 same-length : tie.Need-same-length Inv-loop μ-loop
 same-length c = search needs
 
+same-length-2 : tie.Need-same-length-2 Inv-loop μ-loop
+same-length-2 c = search needs
+
+same-length-3 : tie.Need-same-length-3 Inv-loop μ-loop
+same-length-3 c = search needs
+
+same-length-4 : tie.Need-same-length-4 Inv-loop μ-loop
+same-length-4 c = search needs
+
+same-length-5 : tie.Need-same-length-5 Inv-loop μ-loop
+same-length-5 c = search needs
+
 returns-2 : tie.Need-returns-2 Inv-loop μ-loop
 returns-2 c = search needs
 
@@ -50,8 +62,20 @@ loop-less c = search needs
 loop-again : tie.Need-loop-again Inv-loop μ-loop
 loop-again c = search needs
 
-same-length-2 : tie.Need-same-length-2 Inv-loop μ-loop
-same-length-2 c = search needs
+same-length-6 : tie.Need-same-length-6 Inv-loop μ-loop
+same-length-6 c = search needs
+
+same-length-7 : tie.Need-same-length-7 Inv-loop μ-loop
+same-length-7 c = search needs
+
+same-length-8 : tie.Need-same-length-8 Inv-loop μ-loop
+same-length-8 c = search needs
+
+same-length-9 : tie.Need-same-length-9 Inv-loop μ-loop
+same-length-9 c = search needs
+
+same-length-10 : tie.Need-same-length-10 Inv-loop μ-loop
+same-length-10 c = search needs
 
 returns-3 : tie.Need-returns-3 Inv-loop μ-loop
 returns-3 c = search needs
@@ -70,9 +94,17 @@ calls-spec =
     loop-holds
     one-call-requires
     same-length
+    same-length-2
+    same-length-3
+    same-length-4
+    same-length-5
     returns-2
     add-k
     loop-less
     loop-again
-    same-length-2
+    same-length-6
+    same-length-7
+    same-length-8
+    same-length-9
+    same-length-10
     returns-3)

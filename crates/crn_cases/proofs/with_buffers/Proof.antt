@@ -21,29 +21,49 @@ selector-space-requires c κs = search needs
 array-borrow-prefix-color-endpoints : tie.Need-array-borrow-prefix-color-endpoints
 array-borrow-prefix-color-endpoints c = search needs
 
-slice-aggregate-open-and-unpack : tie.Need-slice-aggregate-open-and-unpack
-slice-aggregate-open-and-unpack c = sym (length-take-le (c .before .before .before .before .before .before .before .args .a) (c .before .before .before .before .color-space .result) (omega (arith, c .before .before .before .before .color-space .ensures, c .before .before .before .before .before .before .before .pre .0)))
+slice-aggregate-open-and-call : tie.Need-slice-aggregate-open-and-call
+slice-aggregate-open-and-call c = sym (length-take-le (c .before .before .before .before .before .before .before .args .a)
+    (c .before .before .before .before .color-space .result) (omega (
+      arith,
+      c .before .before .before .before .color-space .ensures,
+      c .before .before .before .before .before .before .before .pre .0,
+    )))
 
 array-borrow-prefix-color-selectors : tie.Need-array-borrow-prefix-color-selectors
 array-borrow-prefix-color-selectors c = search needs
 
-slice-aggregate-open-and-unpack-2 : tie.Need-slice-aggregate-open-and-unpack-2
-slice-aggregate-open-and-unpack-2 c = sym (length-take-le (c .before .before .before .before .before .before .before .before .args .b) (c .before .before .before .before .color-space2 .result) (omega (arith, c .before .before .before .before .color-space2 .ensures, c .before .before .before .before .before .before .before .before .pre .1)))
+slice-aggregate-open-and-call-2 : tie.Need-slice-aggregate-open-and-call-2
+slice-aggregate-open-and-call-2 c = sym (length-take-le (c .before .before .before .before .before .before .before .before .args .b)
+    (c .before .before .before .before .color-space2 .result) (omega (
+      arith,
+      c .before .before .before .before .color-space2 .ensures,
+      c .before .before .before .before .before .before .before .before .pre .1,
+    )))
 
 array-borrow-prefix-alpha-endpoints : tie.Need-array-borrow-prefix-alpha-endpoints
 array-borrow-prefix-alpha-endpoints c = search needs
 
-slice-aggregate-open-and-unpack-3 : tie.Need-slice-aggregate-open-and-unpack-3
-slice-aggregate-open-and-unpack-3 c = sym (length-take-le (c .before .before .before .before .before .before .before .before .before .args .c) (c .before .before .before .before .alpha-space .result) (omega (arith, c .before .before .before .before .alpha-space .ensures, c .before .before .before .before .before .before .before .before .before .pre .2)))
+slice-aggregate-open-and-call-3 : tie.Need-slice-aggregate-open-and-call-3
+slice-aggregate-open-and-call-3 c = sym (length-take-le (c .before .before .before .before .before .before .before .before .before .args .c)
+    (c .before .before .before .before .alpha-space .result) (omega (
+      arith,
+      c .before .before .before .before .alpha-space .ensures,
+      c .before .before .before .before .before .before .before .before .before .pre .2,
+    )))
 
 array-borrow-prefix-alpha-selectors : tie.Need-array-borrow-prefix-alpha-selectors
 array-borrow-prefix-alpha-selectors c = search needs
 
-slice-aggregate-open-and-unpack-4 : tie.Need-slice-aggregate-open-and-unpack-4
-slice-aggregate-open-and-unpack-4 c = sym (length-take-le (c .before .before .before .before .before .before .before .before .before .before .args .d) (c .before .before .before .before .selector-space .result) (omega (arith, c .before .before .before .before .selector-space .ensures, c .before .before .before .before .before .before .before .before .before .before .pre .3)))
+slice-aggregate-open-and-call-4 : tie.Need-slice-aggregate-open-and-call-4
+slice-aggregate-open-and-call-4 c = sym (length-take-le (c .before .before .before .before .before .before .before .before .before .before
+    .args .d) (c .before .before .before .before .selector-space .result) (omega (
+      arith,
+      c .before .before .before .before .selector-space .ensures,
+      c .before .before .before .before .before .before .before .before .before .before .pre .3,
+    )))
 
-open-and-unpack-requires : tie.Need-open-and-unpack-requires
-open-and-unpack-requires c κs = search needs
+open-and-call-requires : tie.Need-open-and-call-requires
+open-and-call-requires c κs = search needs
 
 same-length : tie.Need-same-length
 same-length c = search needs
@@ -60,13 +80,13 @@ with-buffers-spec =
     alpha-space-requires
     selector-space-requires
     array-borrow-prefix-color-endpoints
-    slice-aggregate-open-and-unpack
+    slice-aggregate-open-and-call
     array-borrow-prefix-color-selectors
-    slice-aggregate-open-and-unpack-2
+    slice-aggregate-open-and-call-2
     array-borrow-prefix-alpha-endpoints
-    slice-aggregate-open-and-unpack-3
+    slice-aggregate-open-and-call-3
     array-borrow-prefix-alpha-selectors
-    slice-aggregate-open-and-unpack-4
-    open-and-unpack-requires
+    slice-aggregate-open-and-call-4
+    open-and-call-requires
     same-length
     returns)
