@@ -44,7 +44,8 @@ enum crunch_refusal {
     CRUNCH_CHUNK = 13,       /* a chunk symbol */
     CRUNCH_INDEX = 14,       /* a palette index */
     CRUNCH_BUDGET = 15,      /* a budget that is already spent */
-    CRUNCH_FORMAT = 16       /* a format that DDS has no letters for */
+    CRUNCH_FORMAT = 16,      /* a format that DDS has no letters for */
+    CRUNCH_DISAGREES = 17    /* a header that is not this file's */
 };
 
 /* A refusal as a sentence for a person. */
@@ -86,6 +87,8 @@ static inline const char *crunch_refusal_sentence(uint32_t refusal)
         return "the level needs more symbols than it was allowed";
     case CRUNCH_FORMAT:
         return "DDS has no letters for this file's format, only for DXT1, DXT5, DXN XY and DXT5A";
+    case CRUNCH_DISAGREES:
+        return "the header that was handed over is not this file's: it is of another file, or one of the two was changed";
     default:
         return "this number is no refusal";
     }
@@ -171,6 +174,12 @@ struct crunch_looked {
 };
 struct crunch_looked crunch_look(const uint8_t *file, size_t file_len);
 
+/* The same of a file's first bytes and of how many it has in all, for who does not want the rest: with the file's first CRUNCH_HEAD_BYTES,
+ * or all of a shorter file, the answer is that of crunch_look for the whole file. Bytes of head after those are not looked at. Where there
+ * are fewer, those that are missing count as 0. */
+#define CRUNCH_HEAD_BYTES 122
+struct crunch_looked crunch_look_at(const uint8_t *head, size_t head_len, size_t file_len);
+
 /* How many words the buffer of each palette has to hold. */
 struct crunch_words {
     size_t color_endpoints, color_selectors, alpha_endpoints, alpha_selectors;
@@ -220,6 +229,25 @@ struct crunch_opened_header {
 };
 struct crunch_opened_header crunch_open_parts(
     const uint8_t *file, size_t file_len,
+    uint32_t *color_endpoints, size_t color_endpoints_len, uint32_t *color_selectors, size_t color_selectors_len,
+    uint16_t *alpha_endpoints, size_t alpha_endpoints_len, uint16_t *alpha_selectors, size_t alpha_selectors_len,
+    uint8_t *chunk_encoding, uint8_t *color_endpoint_delta, uint8_t *color_selector_delta,
+    uint8_t *alpha_endpoint_delta, uint8_t *alpha_selector_delta);
+
+/* Opening in two calls: a file loaded whose header was looked at before, by crunch_look or crunch_look_at. Where the header is not what
+ * crunch_look gives of this file, in any field, the refusal is 17, also where that refuses the file; it comes before all others, and
+ * neither *record nor a buffer is then written. Else all is as crunch_open has it: 4 to 9, what is left in *record and in the buffers. */
+static inline struct crunch_opened crunch_load_with(
+    struct crunch_record *record, struct crunch_header header, const uint8_t *file, size_t file_len,
+    const struct crunch_palettes *palettes);
+static inline struct crunch_opened crunch_load(
+    struct crunch_record *record, struct crunch_header header, const uint8_t *file, size_t file_len,
+    uint32_t *color_endpoints, size_t color_endpoints_len, uint32_t *color_selectors, size_t color_selectors_len,
+    uint16_t *alpha_endpoints, size_t alpha_endpoints_len, uint16_t *alpha_selectors, size_t alpha_selectors_len);
+
+/* The same by the record's parts: at 17 the answer has an empty header and counts of 0, and the arrays stay as they were. */
+struct crunch_opened_header crunch_load_parts(
+    struct crunch_header header, const uint8_t *file, size_t file_len,
     uint32_t *color_endpoints, size_t color_endpoints_len, uint32_t *color_selectors, size_t color_selectors_len,
     uint16_t *alpha_endpoints, size_t alpha_endpoints_len, uint16_t *alpha_selectors, size_t alpha_selectors_len,
     uint8_t *chunk_encoding, uint8_t *color_endpoint_delta, uint8_t *color_selector_delta,
@@ -375,20 +403,37 @@ CRUNCH_BYTES(crunch_written, 40);
     color_endpoints, color_endpoints_len, color_selectors, color_selectors_len, \
     alpha_endpoints, alpha_endpoints_len, alpha_selectors, alpha_selectors_len
 
+/* what the archive answered, put into the record; at 17 nothing is, since the archive left the tables' lengths too */
+static inline struct crunch_opened crunch_opened_as(struct crunch_record *record, const struct crunch_opened_header *o)
+{
+    struct crunch_opened answer = {o->refusal, o->at};
+    if (o->refusal != CRUNCH_DISAGREES) {
+        record->header = o->header;
+        record->tables.chunk_encoding.count = o->counts.chunk_encoding;
+        record->tables.color_endpoint_delta.count = o->counts.color_endpoint_delta;
+        record->tables.color_selector_delta.count = o->counts.color_selector_delta;
+        record->tables.alpha_endpoint_delta.count = o->counts.alpha_endpoint_delta;
+        record->tables.alpha_selector_delta.count = o->counts.alpha_selector_delta;
+    }
+    return answer;
+}
+
 static inline struct crunch_opened crunch_open(
     struct crunch_record *record, const uint8_t *file, size_t file_len,
     uint32_t *color_endpoints, size_t color_endpoints_len, uint32_t *color_selectors, size_t color_selectors_len,
     uint16_t *alpha_endpoints, size_t alpha_endpoints_len, uint16_t *alpha_selectors, size_t alpha_selectors_len)
 {
     struct crunch_opened_header o = crunch_open_parts(file, file_len, CRUNCH_LENT, CRUNCH_LENGTHS);
-    struct crunch_opened answer = {o.refusal, o.at};
-    record->header = o.header;
-    record->tables.chunk_encoding.count = o.counts.chunk_encoding;
-    record->tables.color_endpoint_delta.count = o.counts.color_endpoint_delta;
-    record->tables.color_selector_delta.count = o.counts.color_selector_delta;
-    record->tables.alpha_endpoint_delta.count = o.counts.alpha_endpoint_delta;
-    record->tables.alpha_selector_delta.count = o.counts.alpha_selector_delta;
-    return answer;
+    return crunch_opened_as(record, &o);
+}
+
+static inline struct crunch_opened crunch_load(
+    struct crunch_record *record, struct crunch_header header, const uint8_t *file, size_t file_len,
+    uint32_t *color_endpoints, size_t color_endpoints_len, uint32_t *color_selectors, size_t color_selectors_len,
+    uint16_t *alpha_endpoints, size_t alpha_endpoints_len, uint16_t *alpha_selectors, size_t alpha_selectors_len)
+{
+    struct crunch_opened_header o = crunch_load_parts(header, file, file_len, CRUNCH_LENT, CRUNCH_LENGTHS);
+    return crunch_opened_as(record, &o);
 }
 
 static inline struct crunch_counts crunch_counts_of(const struct crunch_record *record)
@@ -444,6 +489,13 @@ static inline struct crunch_opened crunch_open_with(
     struct crunch_record *record, const uint8_t *file, size_t file_len, const struct crunch_palettes *palettes)
 {
     return crunch_open(record, file, file_len, CRUNCH_LENT);
+}
+
+static inline struct crunch_opened crunch_load_with(
+    struct crunch_record *record, struct crunch_header header, const uint8_t *file, size_t file_len,
+    const struct crunch_palettes *palettes)
+{
+    return crunch_load(record, header, file, file_len, CRUNCH_LENT);
 }
 
 static inline struct crunch_answer crunch_unpack_level_with(

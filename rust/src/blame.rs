@@ -1,7 +1,7 @@
 //! What a refusal is of: the field, the segment, the bit. The archive answers with a number and a bit; the rest is told here by what the
 //! header says, for people, and nothing is decided by it.
 
-use crate::raw::{Header, Opened, Part as Palette, Room};
+use crate::raw::{self, Header, Opened, Part as Palette, Room, HEAD_BYTES};
 use crate::refusal::{Part, Reason, Refusal, Refused, Segment};
 
 /// A segment that opening reads, and where the header has its offset and its size: the first byte of each and how many there are.
@@ -53,9 +53,8 @@ fn limit(header: &Header) -> Option<Reason> {
     Some(Reason { field, value: value.into(), least: least.into(), most: most.into() })
 }
 
-/// The first size that does not hold (3).
-fn size(header: &Header, file: &[u8]) -> Option<Reason> {
-    let len = file.len() as u64;
+/// The first size that does not hold (3), of a file of so many bytes.
+fn size(header: &Header, len: u64) -> Option<Reason> {
     let fields = [
         ("header_size", header.header_size as u64, 70 + 4 * header.levels as u64, len),
         ("data_size", header.data_size as u64, 0, len),
@@ -65,6 +64,22 @@ fn size(header: &Header, file: &[u8]) -> Option<Reason> {
     Some(Reason { field, value, least, most })
 }
 
+/// What the look at a file of so many bytes was refused by, which begins with these.
+pub(crate) fn looked(number: u32, head: &[u8], len: u64) -> Option<Refused> {
+    let refusal = Refusal::of(number)?;
+    // bytes that are missing count as 0 there
+    let mut first = [0; HEAD_BYTES];
+    let there = head.len().min(HEAD_BYTES);
+    first[..there].copy_from_slice(&head[..there]);
+    let header = Header::read(&first);
+    let reason = match refusal {
+        Refusal::Limit => header.as_ref().and_then(limit),
+        Refusal::Size => header.and_then(|header| size(&header, len)),
+        _ => None,
+    };
+    Some(Refused { reason, ..Refused::plain(refusal, None) })
+}
+
 /// What an opening was refused by.
 pub(crate) fn opened(answer: Opened, file: &[u8]) -> Option<Refused> {
     let refusal = Refusal::of(answer.refusal)?;
@@ -72,12 +87,78 @@ pub(crate) fn opened(answer: Opened, file: &[u8]) -> Option<Refused> {
     let Some(header) = &Header::read(file) else { return Some(plain) };
     let at = |part: Option<Part>| part.map_or(plain, |part| Refused::at(refusal, None, part, answer.at));
     Some(match refusal {
-        Refusal::Limit => Refused { reason: limit(header), ..plain },
-        Refusal::Size => Refused { reason: size(header, file), ..plain },
+        Refusal::NotCrn | Refusal::Limit | Refusal::Size => return looked(answer.refusal, file, file.len() as u64),
         Refusal::Segment => at(segments(header).map(|read| read.part).find(|(_, offset, size)| *size == 0 || offset + size > file.len() as u64)),
         Refusal::Palette => plain,
         _ => at(stream(answer, header, file)),
     })
+}
+
+/// What a load by a header was refused by.
+pub(crate) fn loaded(answer: Opened, header: &Header, file: &[u8]) -> Option<Refused> {
+    if Refusal::of(answer.refusal) != Some(Refusal::Disagrees) {
+        return opened(answer, file);
+    }
+    let plain = Refused::plain(Refusal::Disagrees, None);
+    let own = raw::look(file);
+    Some(match looked(own.refusal, file, file.len() as u64) {
+        Some(refused) => Refused { file: Some(refused.refusal), reason: refused.reason, ..plain },
+        None => Refused { reason: difference(header, &own.header), ..plain },
+    })
+}
+
+/// The first field of a header that has another value in the file's own.
+fn difference(header: &Header, own: &Header) -> Option<Reason> {
+    let ((field, value), (_, own)) = fields(header).into_iter().zip(fields(own)).find(|(one, other)| one != other)?;
+    Some(Reason { field, value: value.into(), least: own.into(), most: own.into() })
+}
+
+/// Every field of a header.
+fn fields(h: &Header) -> [(&'static str, u32); 40] {
+    let [o0, o1, o2, o3, o4, o5, o6, o7, o8, o9, o10, o11, o12] = h.level_offsets;
+    let (ce, cs, ae, al) = (h.color_endpoints, h.color_selectors, h.alpha_endpoints, h.alpha_selectors);
+    [
+        ("header_size", h.header_size),
+        ("header_crc16", h.header_crc16),
+        ("data_size", h.data_size),
+        ("data_crc16", h.data_crc16),
+        ("width", h.width),
+        ("height", h.height),
+        ("levels", h.levels),
+        ("faces", h.faces),
+        ("format", h.format),
+        ("flags", h.flags),
+        ("reserved", h.reserved),
+        ("userdata0", h.userdata0),
+        ("userdata1", h.userdata1),
+        ("color_endpoints.offset", ce.offset),
+        ("color_endpoints.size", ce.size),
+        ("color_endpoints.count", ce.count),
+        ("color_selectors.offset", cs.offset),
+        ("color_selectors.size", cs.size),
+        ("color_selectors.count", cs.count),
+        ("alpha_endpoints.offset", ae.offset),
+        ("alpha_endpoints.size", ae.size),
+        ("alpha_endpoints.count", ae.count),
+        ("alpha_selectors.offset", al.offset),
+        ("alpha_selectors.size", al.size),
+        ("alpha_selectors.count", al.count),
+        ("tables_size", h.tables_size),
+        ("tables_offset", h.tables_offset),
+        ("level_offsets[0]", o0),
+        ("level_offsets[1]", o1),
+        ("level_offsets[2]", o2),
+        ("level_offsets[3]", o3),
+        ("level_offsets[4]", o4),
+        ("level_offsets[5]", o5),
+        ("level_offsets[6]", o6),
+        ("level_offsets[7]", o7),
+        ("level_offsets[8]", o8),
+        ("level_offsets[9]", o9),
+        ("level_offsets[10]", o10),
+        ("level_offsets[11]", o11),
+        ("level_offsets[12]", o12),
+    ]
 }
 
 /// The bytes of a header before the offsets of its levels.

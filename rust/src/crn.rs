@@ -6,7 +6,9 @@ use crate::reading::{self, Buffers, Limits, NotRead};
 use crate::{blame, Format, Refusal, Refused};
 use std::borrow::Cow;
 use std::fmt;
+use std::fs::File;
 use std::io::Read;
+use std::path::Path;
 
 /// An opened file: its record and its palettes, beside the file's bytes. Each is the value's own or lent.
 #[derive(Clone)]
@@ -18,13 +20,94 @@ pub struct Crn<'a> {
 
 /// Opens a file into memory of its own or another's.
 fn opened(file: &[u8], room: &mut Room) -> Result<Format, Refused> {
-    match blame::opened(room.open(file), file) {
-        Some(refused) => Err(refused),
-        None => Ok(Format::of(room.record().header.format).expect("a file that opens has a known format")),
-    }
+    blame::opened(room.open(file), file).map_or_else(|| Ok(format_in(room)), Err)
+}
+
+/// Loads a file by its header, in the same way.
+fn loaded(header: &Header, file: &[u8], room: &mut Room) -> Result<Format, Refused> {
+    blame::loaded(room.load(header, file), header, file).map_or_else(|| Ok(format_in(room)), Err)
+}
+
+/// The format of the file that is open.
+fn format_in(room: &Room) -> Format {
+    room.record().header.format().expect("a file that opens has a known format")
 }
 
 impl Crn<'static> {
+    /// Looks at a file's header: what [`open`](Crn::open) begins with, without code tables and palettes. [`load`](Crn::load) does the rest.
+    ///
+    /// ```
+    /// use crunch_proved::{Crn, Format};
+    ///
+    /// let file = std::fs::read("../samples/cube.crn")?;
+    /// let header = Crn::look(&file)?;
+    /// assert_eq!((header.format(), header.width, header.height), (Some(Format::Dxt1), 16, 16));
+    /// assert_eq!(header.to_string(), "DXT1, 16 x 16 pixels, 5 levels, 6 faces");
+    /// // the rest of the file has no say
+    /// assert_eq!(Crn::look_at(&file[..122], 443), Ok(header));
+    /// assert_eq!(Crn::look_at(&file[..122], 442).unwrap_err().number(), 3);
+    /// # Ok::<(), Box<dyn std::error::Error>>(())
+    /// ```
+    ///
+    /// # Errors
+    ///
+    /// 1, 2 and 3, as [`open`](Crn::open) has them.
+    pub fn look(file: &[u8]) -> Result<Header, Refused> {
+        let looked = raw::look(file);
+        blame::looked(looked.refusal, file, file.len() as u64).map_or(Ok(looked.header), Err)
+    }
+
+    /// The same of a file's first bytes, and of how many it has in all. It has to be the first 122 ([`raw::HEAD_BYTES`]) or all of a
+    /// shorter file, and may be more: with fewer, those that are missing count as 0.
+    ///
+    /// # Errors
+    ///
+    /// As [`look`](Crn::look).
+    pub fn look_at(head: &[u8], file_bytes: u64) -> Result<Header, Refused> {
+        reading::look_at(head, file_bytes)
+    }
+
+    /// The same of a file on disk, of which no more than the first 122 bytes are read.
+    ///
+    /// ```
+    /// use crunch_proved::{Crn, NotRead};
+    ///
+    /// assert_eq!(Crn::look_path("../samples/dxn.crn")?.to_string(), "DXN XY, 32 x 32 pixels, 6 levels, 1 face");
+    /// assert!(matches!(Crn::look_path("../samples/make.py"), Err(NotRead::Refused(no)) if no.number() == 1));
+    /// assert!(matches!(Crn::look_path("../samples/none.crn"), Err(NotRead::Io(_))));
+    /// # Ok::<(), Box<dyn std::error::Error>>(())
+    /// ```
+    ///
+    /// # Errors
+    ///
+    /// [`NotRead::Io`] where it can't be read, and [`NotRead::Refused`] as [`look`](Crn::look). What is no regular file (a pipe, a device)
+    /// is read to its end, as by [`look_read`](Crn::look_read) with nothing said.
+    pub fn look_path(path: impl AsRef<Path>) -> Result<Header, NotRead> {
+        let file = File::open(path)?;
+        let about = file.metadata()?;
+        reading::look(&file, about.is_file().then_some(about.len()))
+    }
+
+    /// The same of what a reader gives, which is said to have so many bytes in all: no more than the first 122 are read. Where nothing is
+    /// said, or where that can't be, the bytes after them are read too, to be counted: none is kept.
+    ///
+    /// ```
+    /// use crunch_proved::Crn;
+    ///
+    /// let file = std::fs::File::open("../samples/dxt5.crn")?;
+    /// let header = Crn::look_read(&file, Some(file.metadata()?.len()))?;
+    /// assert_eq!(Crn::look_read(&std::fs::read("../samples/dxt5.crn")?[..], None)?, header);
+    /// # Ok::<(), Box<dyn std::error::Error>>(())
+    /// ```
+    ///
+    /// # Errors
+    ///
+    /// [`NotRead::Io`] where it can't be read, and [`NotRead::Refused`] as [`look`](Crn::look). 1 and 2 are seen by the first bytes, and
+    /// the rest is then not read; nor is more than 4,294,967,295 bytes, which no CRN file has.
+    pub fn look_read(from: impl Read, file_bytes: Option<u64>) -> Result<Header, NotRead> {
+        reading::look(from, file_bytes)
+    }
+
     /// Opens a file that it keeps.
     ///
     /// # Errors
@@ -88,6 +171,42 @@ impl<'a> Crn<'a> {
         let mut room = Room::default();
         let format = opened(file, &mut room)?;
         Ok(Crn { file: Cow::Borrowed(file), room: Cow::Owned(room), format })
+    }
+
+    /// Loads the code tables and palettes of a file whose header was looked at before, by [`look`](Crn::look) or its likes: one after the
+    /// other is what [`open`](Crn::open) is. Whether the header is this file's is looked at first.
+    ///
+    /// ```
+    /// use crunch_proved::{Crn, Refusal};
+    ///
+    /// let (one, other) = (std::fs::read("../samples/dxt1.crn")?, std::fs::read("../samples/dxt5.crn")?);
+    /// let header = Crn::look(&one)?;
+    /// assert_eq!(Crn::load(&header, &one)?.palettes().color_endpoints.len(), 40);
+    ///
+    /// let no = Crn::load(&header, &other).unwrap_err();
+    /// assert_eq!(no.refusal, Refusal::Disagrees);
+    /// assert!(no.to_string().ends_with("(header_size is 98, and has to be 94)"));
+    /// # Ok::<(), Box<dyn std::error::Error>>(())
+    /// ```
+    ///
+    /// # Errors
+    ///
+    /// First of all 17 where the header is not what a look gives of this file, in any field, and also where that is refused. Then, as
+    /// [`open`](Crn::open), 4 of a segment, 6 to 9 of the compressed data of the code tables and palettes.
+    pub fn load(header: &Header, file: &'a [u8]) -> Result<Crn<'a>, Refused> {
+        let mut room = Room::default();
+        let format = loaded(header, file, &mut room)?;
+        Ok(Crn { file: Cow::Borrowed(file), room: Cow::Owned(room), format })
+    }
+
+    /// The same into buffers that are used again.
+    ///
+    /// # Errors
+    ///
+    /// As [`load`](Crn::load). Nothing of a file that was in the buffers is then there to be seen.
+    pub fn load_with(header: &Header, file: &'a [u8], buffers: &'a mut Buffers) -> Result<Crn<'a>, Refused> {
+        let format = loaded(header, file, &mut buffers.room)?;
+        Ok(Crn { file: Cow::Borrowed(file), room: Cow::Borrowed(&buffers.room), format })
     }
 
     /// Opens a file within limits.

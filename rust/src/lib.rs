@@ -15,8 +15,9 @@
 //! # Ok::<(), Box<dyn std::error::Error>>(())
 //! ```
 //!
-//! [`Crn::read`] takes a reader, [`Limits`] bound what a file may claim, and a loop over many files keeps its [`Buffers`]. All that is `unsafe`
-//! stands in the module [`raw`]. A call takes less than 256 KB of stack, whatever the file; nothing is bound to a thread.
+//! [`Crn::read`] takes a reader, [`Limits`] bound what a file may claim, and a loop over many files keeps its [`Buffers`]. Who wants no
+//! more than format and sizes has [`Crn::look_path`], which reads 122 bytes at most; [`Crn::load`] then opens by what the look gave. All
+//! that is `unsafe` stands in the module [`raw`]. A call takes less than 256 KB of stack, whatever the file; nothing is bound to a thread.
 
 #![deny(unsafe_code)]
 #![warn(missing_docs)]

@@ -3,6 +3,8 @@
 //!
 //! The structs are those of `include/crunch.h`, where each field is told.
 
+use crate::grouped::grouped;
+use crate::Format;
 use std::fmt;
 use std::mem::MaybeUninit;
 
@@ -19,7 +21,8 @@ pub struct Part {
     pub count: u32,
 }
 
-/// The header's fields as read. A level that the file does not have is at offset 0.
+/// The header's fields as read. A level that the file does not have is at offset 0. [`Crn::look`](crate::Crn::look) gives one, and
+/// [`Crn::load`](crate::Crn::load) takes it.
 #[repr(C)]
 #[derive(Clone, Copy, Debug, Default, PartialEq, Eq)]
 #[non_exhaustive]
@@ -40,7 +43,7 @@ pub struct Header {
     pub levels: u32,
     /// Faces, 1 or 6.
     pub faces: u32,
-    /// The format's number: [`Format::of`](crate::Format::of).
+    /// The format's number: [`Header::format`] has the format.
     pub format: u32,
     /// Flags; they have no say.
     pub flags: u32,
@@ -105,7 +108,7 @@ pub struct Record {
     pub tables: Tables,
 }
 
-/// What [`look`] answers: refusal 0 with the header, or a refusal.
+/// What [`look`] and [`look_at`] answer: refusal 0 with the header, or a refusal.
 #[repr(C)]
 #[derive(Clone, Copy, Debug, Default, PartialEq, Eq)]
 #[non_exhaustive]
@@ -116,14 +119,14 @@ pub struct Looked {
     pub header: Header,
 }
 
-/// What [`open`] answers: refusal 0; or the refusal and the bit that it names, counted from its segment's first.
+/// What [`open`] and [`load`] answer: refusal 0; or the refusal and the bit that it names, counted from its segment's first.
 #[repr(C)]
 #[derive(Clone, Copy, Debug, Default, PartialEq, Eq)]
 #[non_exhaustive]
 pub struct Opened {
-    /// 0, or 1 to 9.
+    /// 0; 1 to 9 of [`open`]; 4 to 9 or 17 of [`load`].
     pub refusal: u32,
-    /// The bit; 0 where the refusal is 5 or below.
+    /// The bit; 0 where the refusal is 5 or below, or 17.
     pub at: usize,
 }
 
@@ -292,10 +295,18 @@ pub struct PalettesMut<'a> {
 extern "C" {
     fn crunch_abi_version() -> u32;
     fn crunch_look(file: *const u8, file_len: usize) -> Looked;
+    fn crunch_look_at(head: *const u8, head_len: usize, file_len: usize) -> Looked;
     fn crunch_palette_words(header: Header) -> PaletteWords;
     fn crunch_level_sizes(header: Header, level: u32) -> LevelSizes;
     fn crunch_open_parts(
         file: *const u8, file_len: usize,
+        color_endpoints: *mut u32, color_endpoints_len: usize, color_selectors: *mut u32, color_selectors_len: usize,
+        alpha_endpoints: *mut u16, alpha_endpoints_len: usize, alpha_selectors: *mut u16, alpha_selectors_len: usize,
+        chunk_encoding: *mut Lengths, color_endpoint_delta: *mut Lengths, color_selector_delta: *mut Lengths,
+        alpha_endpoint_delta: *mut Lengths, alpha_selector_delta: *mut Lengths,
+    ) -> OpenedHeader;
+    fn crunch_load_parts(
+        header: Header, file: *const u8, file_len: usize,
         color_endpoints: *mut u32, color_endpoints_len: usize, color_selectors: *mut u32, color_selectors_len: usize,
         alpha_endpoints: *mut u16, alpha_endpoints_len: usize, alpha_selectors: *mut u16, alpha_selectors_len: usize,
         chunk_encoding: *mut Lengths, color_endpoint_delta: *mut Lengths, color_selector_delta: *mut Lengths,
@@ -330,6 +341,11 @@ extern "C" {
 type Lengths = [u8; 8192];
 
 impl Header {
+    /// The format of the blocks; nothing for a number that no file has, which no look or opening gives.
+    pub fn format(&self) -> Option<Format> {
+        Format::of(self.format)
+    }
+
     /// The fields as they stand in a file's first bytes, judged by nothing: for showing what a file says that is refused. Nothing where there
     /// are under 74 bytes or no signature; bytes past the end count as 0.
     ///
@@ -369,6 +385,18 @@ impl Header {
             tables_offset: field(67, 3),
             level_offsets: std::array::from_fn(|level| if level < levels as usize { field(70 + 4 * level, 4) } else { 0 }),
         })
+    }
+}
+
+/// What a picture is, in a line: `DXT1, 16 x 16 pixels, 5 levels, 6 faces`.
+impl fmt::Display for Header {
+    fn fmt(&self, f: &mut fmt::Formatter<'_>) -> fmt::Result {
+        match self.format() {
+            Some(format) => write!(f, "{format}")?,
+            None => write!(f, "format {}", self.format)?,
+        }
+        let count = |n: u32, thing: &str| format!("{} {thing}{}", grouped(n.into()), if n == 1 { "" } else { "s" });
+        write!(f, ", {} x {} pixels, {}, {}", self.width, self.height, count(self.levels, "level"), count(self.faces, "face"))
     }
 }
 
@@ -425,6 +453,18 @@ pub fn look(file: &[u8]) -> Looked {
     unsafe { crunch_look(file.as_ptr(), file.len()) }
 }
 
+/// As many bytes as a header has at most, with the offsets of 13 levels: what [`look_at`] asks for.
+pub const HEAD_BYTES: usize = 70 + 4 * 13;
+
+/// The header of a file of `file_len` bytes that begins with `head`: with the file's first [`HEAD_BYTES`], or all of a shorter file, as
+/// [`look`] has it of the whole file. Bytes of `head` after those are not looked at; where there are fewer, those that are missing count
+/// as 0.
+pub fn look_at(head: &[u8], file_len: usize) -> Looked {
+    fits();
+    // SAFETY: as in `look`.
+    unsafe { crunch_look_at(head.as_ptr(), head.len(), file_len) }
+}
+
 /// How many words of each palette's buffer opening fills.
 pub fn palette_words(header: &Header) -> PaletteWords {
     // SAFETY: a struct by value.
@@ -440,13 +480,40 @@ pub fn level_sizes(header: &Header, level: u32) -> LevelSizes {
 /// Opens a file, and leaves what it is in the record; after a refusal an empty one. Refused by 1 to 5 it leaves the buffers untouched, refused later it leaves them
 /// zero.
 pub fn open(file: &[u8], palettes: &mut PalettesMut<'_>, record: &mut Record) -> Opened {
-    let PalettesMut { color_endpoints: ce, color_selectors: cs, alpha_endpoints: ae, alpha_selectors: al } = palettes;
     // SAFETY: what is written is lent as `&mut`, so none overlaps another.
-    unsafe { open_at(file, (ce.as_mut_ptr(), ce.len()), (cs.as_mut_ptr(), cs.len()), (ae.as_mut_ptr(), ae.len()), (al.as_mut_ptr(), al.len()), record) }
+    unsafe { open_at(None, file, palettes.lent(), record) }
+}
+
+/// Loads a file whose header was looked at before: opening's second half. Refused by 17, first of all, where the header is not what
+/// [`look`] gives of this file, in any field, and also where that refuses the file: then it leaves the buffers and the whole record
+/// untouched. Else it answers and leaves all as [`open`] does.
+pub fn load(header: &Header, file: &[u8], palettes: &mut PalettesMut<'_>, record: &mut Record) -> Opened {
+    // SAFETY: as in `open`.
+    unsafe { open_at(Some(header), file, palettes.lent(), record) }
 }
 
 /// A buffer by its pointer and its length.
 type Lent<T> = (*mut T, usize);
+
+/// The four palettes' buffers.
+#[derive(Clone, Copy)]
+struct LentPalettes {
+    color_endpoints: Lent<u32>,
+    color_selectors: Lent<u32>,
+    alpha_endpoints: Lent<u16>,
+    alpha_selectors: Lent<u16>,
+}
+
+impl PalettesMut<'_> {
+    fn lent(&mut self) -> LentPalettes {
+        LentPalettes {
+            color_endpoints: (self.color_endpoints.as_mut_ptr(), self.color_endpoints.len()),
+            color_selectors: (self.color_selectors.as_mut_ptr(), self.color_selectors.len()),
+            alpha_endpoints: (self.alpha_endpoints.as_mut_ptr(), self.alpha_endpoints.len()),
+            alpha_selectors: (self.alpha_selectors.as_mut_ptr(), self.alpha_selectors.len()),
+        }
+    }
+}
 
 /// Room for so many elements in a buffer that is used again; it holds none of them yet.
 fn cleared<T>(buffer: &mut Vec<T>, room: usize) -> Lent<T> {
@@ -455,39 +522,59 @@ fn cleared<T>(buffer: &mut Vec<T>, room: usize) -> Lent<T> {
     (buffer.as_mut_ptr(), room)
 }
 
-/// Opens a file into memory that need hold nothing yet: a record's is written whole by every call, a palette's where the file is accepted.
+/// Opens a file, or loads it by a header, into memory that need hold nothing yet: a record's is written whole by every call but one that 17
+/// refuses, which writes nothing; a palette's where the file is accepted.
 ///
 /// # Safety
 ///
 /// Each pointer points to as many elements as stand beside it, the last to a record, all of which may be written; none overlaps another.
-unsafe fn open_at(file: &[u8], ce: Lent<u32>, cs: Lent<u32>, ae: Lent<u16>, al: Lent<u16>, record: *mut Record) -> Opened {
+unsafe fn open_at(header: Option<&Header>, file: &[u8], palettes: LentPalettes, record: *mut Record) -> Opened {
     fits();
+    let LentPalettes { color_endpoints: ce, color_selectors: cs, alpha_endpoints: ae, alpha_selectors: al } = palettes;
     let tables = &raw mut (*record).tables;
-    let opened = crunch_open_parts(
-        file.as_ptr(),
-        file.len(),
-        ce.0,
-        ce.1,
-        cs.0,
-        cs.1,
-        ae.0,
-        ae.1,
-        al.0,
-        al.1,
-        &raw mut (*tables).chunk_encoding.lengths,
-        &raw mut (*tables).color_endpoint_delta.lengths,
-        &raw mut (*tables).color_selector_delta.lengths,
-        &raw mut (*tables).alpha_endpoint_delta.lengths,
-        &raw mut (*tables).alpha_selector_delta.lengths,
-    );
-    (*record).header = opened.header;
-    (*tables).chunk_encoding.count = opened.counts.chunk_encoding;
-    (*tables).color_endpoint_delta.count = opened.counts.color_endpoint_delta;
-    (*tables).color_selector_delta.count = opened.counts.color_selector_delta;
-    (*tables).alpha_endpoint_delta.count = opened.counts.alpha_endpoint_delta;
-    (*tables).alpha_selector_delta.count = opened.counts.alpha_selector_delta;
+    // both exports take the same, but for the header
+    macro_rules! into_parts {
+        ($export:ident $(, $header:expr)?) => {
+            $export(
+                $($header,)?
+                file.as_ptr(),
+                file.len(),
+                ce.0,
+                ce.1,
+                cs.0,
+                cs.1,
+                ae.0,
+                ae.1,
+                al.0,
+                al.1,
+                &raw mut (*tables).chunk_encoding.lengths,
+                &raw mut (*tables).color_endpoint_delta.lengths,
+                &raw mut (*tables).color_selector_delta.lengths,
+                &raw mut (*tables).alpha_endpoint_delta.lengths,
+                &raw mut (*tables).alpha_selector_delta.lengths,
+            )
+        };
+    }
+    let opened = match header {
+        Some(header) => into_parts!(crunch_load_parts, *header),
+        None => into_parts!(crunch_open_parts),
+    };
+    if opened.refusal != DISAGREES {
+        (*record).header = opened.header;
+        (*tables).chunk_encoding.count = opened.counts.chunk_encoding;
+        (*tables).color_endpoint_delta.count = opened.counts.color_endpoint_delta;
+        (*tables).color_selector_delta.count = opened.counts.color_selector_delta;
+        (*tables).alpha_endpoint_delta.count = opened.counts.alpha_endpoint_delta;
+        (*tables).alpha_selector_delta.count = opened.counts.alpha_selector_delta;
+    }
     Opened { refusal: opened.refusal, at: opened.at }
 }
+
+/// The refusal that leaves the record as it was.
+const DISAGREES: u32 = 17;
+
+/// The most entries that a palette can have.
+const MOST_ENTRIES: usize = 8192;
 
 /// A record and four palettes with memory of their own, which one file after another is opened into: nothing is allocated again where it is
 /// large enough, and nobody zeroes it but the archive.
@@ -505,25 +592,40 @@ pub(crate) struct Room {
 impl Room {
     /// Opens a file. What was there is gone, also after a refusal.
     pub(crate) fn open(&mut self, file: &[u8]) -> Opened {
-        self.open = false;
         let looked = look(file);
-        if looked.refusal != 0 {
-            return Opened { refusal: looked.refusal, at: 0 };
+        if looked.refusal == 0 {
+            return self.load(&looked.header, file);
         }
-        let words = palette_words(&looked.header);
-        let (ce, cs) = (cleared(&mut self.color_endpoints, words.color_endpoints), cleared(&mut self.color_selectors, words.color_selectors));
-        let (ae, al) = (cleared(&mut self.alpha_endpoints, words.alpha_endpoints), cleared(&mut self.alpha_selectors, words.alpha_selectors));
+        self.open = false;
+        cleared(&mut self.color_endpoints, 0);
+        cleared(&mut self.color_selectors, 0);
+        cleared(&mut self.alpha_endpoints, 0);
+        cleared(&mut self.alpha_selectors, 0);
+        Opened { refusal: looked.refusal, at: 0 }
+    }
+
+    /// Loads a file by its header, or by one that is said to be. What was there is gone, also after a refusal.
+    pub(crate) fn load(&mut self, header: &Header, file: &[u8]) -> Opened {
+        self.open = false;
+        // a header that nobody's look gave may claim any number
+        let PaletteWords { color_endpoints, color_selectors, alpha_endpoints, alpha_selectors } = palette_words(header);
+        let palettes = LentPalettes {
+            color_endpoints: cleared(&mut self.color_endpoints, color_endpoints.min(MOST_ENTRIES)),
+            color_selectors: cleared(&mut self.color_selectors, color_selectors.min(MOST_ENTRIES)),
+            alpha_endpoints: cleared(&mut self.alpha_endpoints, alpha_endpoints.min(MOST_ENTRIES)),
+            alpha_selectors: cleared(&mut self.alpha_selectors, alpha_selectors.min(3 * MOST_ENTRIES)),
+        };
         let record = self.record.get_or_insert_with(Box::new_uninit).as_mut_ptr();
         // SAFETY: each buffer has as much room as stands beside it.
-        let opened = unsafe { open_at(file, ce, cs, ae, al, record) };
+        let opened = unsafe { open_at(Some(header), file, palettes, record) };
         if opened.refusal == 0 {
             self.open = true;
-            // SAFETY: a file that is accepted fills all these words.
+            // SAFETY: a file that is accepted has this header, whose palettes are no larger, and fills all these words.
             unsafe {
-                self.color_endpoints.set_len(ce.1);
-                self.color_selectors.set_len(cs.1);
-                self.alpha_endpoints.set_len(ae.1);
-                self.alpha_selectors.set_len(al.1);
+                self.color_endpoints.set_len(palettes.color_endpoints.1);
+                self.color_selectors.set_len(palettes.color_selectors.1);
+                self.alpha_endpoints.set_len(palettes.alpha_endpoints.1);
+                self.alpha_selectors.set_len(palettes.alpha_selectors.1);
             }
         }
         opened
@@ -674,4 +776,34 @@ pub(crate) fn dds_in(record: &Record, file: &[u8], palettes: &Palettes<'_>, dds:
         unsafe { dds.set_len(answer.bytes) };
     }
     answer
+}
+
+#[cfg(test)]
+mod tests {
+    use super::*;
+
+    /// Whatever refuses a file, its room is then empty: there is no record, and no word of a palette.
+    #[test]
+    fn a_refused_file_leaves_an_empty_room() {
+        let (file, mut room) = (std::fs::read("../samples/dxt5.crn").unwrap(), Room::default());
+        let (header, mut wide, mut spoilt) = (look(&file).header, file.clone(), file.clone());
+        wide[12] = 0xFF;
+        spoilt[header.tables_offset as usize..][..2].fill(0xFF);
+        type Call<'a> = &'a dyn Fn(&mut Room) -> Opened;
+        let refused: [(u32, Call); 5] = [
+            (1, &|room| room.open(&[])),
+            (2, &|room| room.open(&wide)),
+            (6, &|room| room.open(&spoilt)),
+            (17, &|room| room.load(&header, &wide)),
+            (17, &|room| room.load(&Header::default(), &file)),
+        ];
+        for (number, call) in refused {
+            assert_eq!(room.open(&file), Opened::default());
+            assert_eq!((room.record().header, room.palettes().alpha_selectors.len()), (header, 90));
+            assert_eq!(call(&mut room).refusal, number);
+            let Palettes { color_endpoints, color_selectors, alpha_endpoints, alpha_selectors } = room.palettes();
+            assert_eq!([color_endpoints.len(), color_selectors.len(), alpha_endpoints.len(), alpha_selectors.len()], [0; 4]);
+            assert!(!room.open && room.clone().record.is_none(), "refused by {number}");
+        }
+    }
 }

@@ -1,6 +1,6 @@
 //! What a file is read into, and how much it may claim.
 
-use crate::raw::{self, Header, Room};
+use crate::raw::{self, Header, Room, HEAD_BYTES};
 use crate::{blame, Refused};
 use std::fmt;
 use std::io::{self, Read};
@@ -191,6 +191,52 @@ const FIRST: u64 = 4096;
 /// The most that a CRN file can have.
 const MOST: u64 = u32::MAX as u64;
 
+/// Reads until a buffer is full or nothing follows: how many bytes there were.
+fn filled(from: &mut impl Read, buffer: &mut [u8]) -> io::Result<usize> {
+    let mut len = 0;
+    while len < buffer.len() {
+        match from.read(&mut buffer[len..]) {
+            Ok(0) => break,
+            Ok(n) => len += n,
+            Err(error) if error.kind() == io::ErrorKind::Interrupted => (),
+            Err(error) => return Err(error),
+        }
+    }
+    Ok(len)
+}
+
+/// The look at a file of so many bytes, which begins with these.
+pub(crate) fn look_at(head: &[u8], len: u64) -> Result<Header, Refused> {
+    let looked = raw::look_at(head, len as usize);
+    blame::looked(looked.refusal, head, len).map_or(Ok(looked.header), Err)
+}
+
+/// What refuses a file of these first bytes, however many follow: 1 or 2.
+fn refused_by_head(head: &[u8]) -> Result<(), Refused> {
+    match look_at(head, head.len() as u64) {
+        Err(refused) if refused.number() < 3 => Err(refused),
+        _ => Ok(()),
+    }
+}
+
+/// Reads a file's first bytes, and looks at them. What it is said to have counts where its first bytes fit that; else what follows them is
+/// read too, as far as its number has a say, and is not kept.
+pub(crate) fn look(mut from: impl Read, said: Option<u64>) -> Result<Header, NotRead> {
+    let mut head = [0; HEAD_BYTES];
+    let there = filled(&mut from, &mut head)?;
+    let (head, there) = (&head[..there], there as u64);
+    let len = match said {
+        // it has ended
+        _ if there < HEAD_BYTES as u64 => there,
+        Some(len) if len >= there => len,
+        _ => {
+            refused_by_head(head)?;
+            there + io::copy(&mut from.take(MOST + 1 - there), &mut io::sink())?
+        }
+    };
+    Ok(look_at(head, len)?)
+}
+
 /// Reads a file into a buffer that may hold another, and no more of it than is wanted: a long one that 1 or 2 refuses is not read on, nor what
 /// is over a limit. How many bytes it has, which the buffer then begins with.
 pub(crate) fn read(mut from: impl Read, limits: &Limits, buffer: &mut Vec<u8>) -> Result<usize, NotRead> {
@@ -200,23 +246,12 @@ pub(crate) fn read(mut from: impl Read, limits: &Limits, buffer: &mut Vec<u8>) -
     if buffer.len() < first {
         buffer.resize(first, 0);
     }
-    let mut len = 0;
-    while len < first {
-        match from.read(&mut buffer[len..first]) {
-            Ok(0) => break,
-            Ok(n) => len += n,
-            Err(error) if error.kind() == io::ErrorKind::Interrupted => (),
-            Err(error) => return Err(error.into()),
-        }
-    }
+    let len = filled(&mut from, &mut buffer[..first])?;
     limits.hold(&buffer[..len])?;
     if (len as u64) < FIRST {
         return Ok(len);
     }
-    let refusal = raw::look(&buffer[..len]).refusal;
-    if let 1 | 2 = refusal {
-        return Err(blame::opened(raw::Opened { refusal, at: 0 }, &buffer[..len]).expect("it is refused").into());
-    }
+    refused_by_head(&buffer[..len])?;
     buffer.truncate(len);
     from.take(most - FIRST).read_to_end(buffer)?;
     limits.hold(buffer)?;

@@ -40,9 +40,11 @@ pub enum Refusal {
     Budget,
     /// 16: a format that DDS has no letters for.
     Format,
+    /// 17: a header that is not this file's.
+    Disagrees,
 }
 
-const ALL: [(Refusal, &str); 16] = [
+const ALL: [(Refusal, &str); 17] = [
     (Refusal::NotCrn, "this is no CRN file: it does not begin with the letters Hx, or is shorter than any CRN file"),
     (
         Refusal::Limit,
@@ -62,6 +64,7 @@ const ALL: [(Refusal, &str); 16] = [
     (Refusal::Index, "the compressed data are damaged: a block asks for an entry that its palette does not have"),
     (Refusal::Budget, "the level needs more symbols than it was allowed"),
     (Refusal::Format, "DDS has no letters for this file's format, only for DXT1, DXT5, DXN XY and DXT5A"),
+    (Refusal::Disagrees, "the header that was handed over is not this file's: it is of another file, or one of the two was changed"),
 ];
 
 impl Refusal {
@@ -71,7 +74,7 @@ impl Refusal {
         (number != 0).then(|| known(number).0)
     }
 
-    /// The number by which the format's description knows it, 1 to 16.
+    /// The number by which the format's description knows it, 1 to 17.
     pub fn number(self) -> u32 {
         self as u32
     }
@@ -124,23 +127,26 @@ pub struct Refused {
     pub level: Option<u32>,
     /// Where in the file: the segment that does not stand (4), or the segment and the bit of it that are at fault (6 to 9, 13 to 15).
     pub place: Option<Place>,
-    /// By which field of the header (2, 3).
+    /// By which field of the file's header (2, 3); or by which field of the header that was handed over with it (17).
     pub reason: Option<Reason>,
+    /// What the file itself is refused by, whatever header is handed over with it (17, where that is so): 1, 2 or 3, whose reason it then
+    /// is.
+    pub file: Option<Refusal>,
 }
 
 impl Refused {
     pub(crate) fn plain(refusal: Refusal, level: Option<u32>) -> Refused {
-        Refused { refusal, level, place: None, reason: None }
+        Refused { refusal, level, place: None, reason: None, file: None }
     }
 
     /// At a segment, and at a bit of it where the refusal is of a stream.
     pub(crate) fn at(refusal: Refusal, level: Option<u32>, (segment, offset, size): Part, bit: usize) -> Refused {
         let bit = refusal.of_a_stream().then_some(bit as u64);
         let placed = bit.is_some() || refusal == Refusal::Segment;
-        Refused { refusal, level, place: placed.then_some(Place { segment, offset, size, bit }), reason: None }
+        Refused { place: placed.then_some(Place { segment, offset, size, bit }), ..Refused::plain(refusal, level) }
     }
 
-    /// The refusal's number, 1 to 16.
+    /// The refusal's number, 1 to 17.
     pub fn number(&self) -> u32 {
         self.refusal.number()
     }
@@ -157,8 +163,11 @@ impl fmt::Display for Refused {
             write!(f, "level {level}: ")?;
         }
         self.refusal.fmt(f)?;
-        if let Some(reason) = self.reason {
-            write!(f, " ({reason})")?;
+        match (self.file, self.reason) {
+            (Some(file), Some(reason)) => write!(f, " (the file itself is {file} ({reason}))")?,
+            (Some(file), None) => write!(f, " (the file itself is {file})")?,
+            (None, Some(reason)) => write!(f, " ({reason})")?,
+            (None, None) => (),
         }
         match self.place {
             Some(place) => write!(f, " ({place})"),
@@ -238,15 +247,17 @@ impl fmt::Display for Place {
     }
 }
 
-/// A field of the header, or the file's own length, that is not what it may be.
+/// A field of the header, or the file's own length, that is not what it may be; or a field of a header that was handed over with a file,
+/// and has another value there.
 #[derive(Clone, Copy, Debug, PartialEq, Eq, Hash)]
 #[non_exhaustive]
 pub struct Reason {
-    /// The field's name, as [`Header`](crate::Header) has it: `width`, `color_endpoints.count`; or `file`, the file's length.
+    /// The field's name, as [`Header`](crate::Header) has it: `width`, `color_endpoints.count`, `level_offsets[3]`; or `file`, the file's
+    /// length.
     pub field: &'static str,
     /// Its value.
     pub value: u64,
-    /// The least that it may be.
+    /// The least that it may be. With [`Refusal::Disagrees`] it and the most are the file's value.
     pub least: u64,
     /// The most. Of the faces only 1 and 6 may be, and no format has number 1.
     pub most: u64,
@@ -254,11 +265,12 @@ pub struct Reason {
 
 impl fmt::Display for Reason {
     fn fmt(&self, f: &mut fmt::Formatter<'_>) -> fmt::Result {
-        write!(f, "{} is {}, and may be ", self.field, grouped(self.value))?;
+        write!(f, "{} is {}, and ", self.field, grouped(self.value))?;
         match self.field {
-            "faces" => write!(f, "1 or 6"),
-            "format" => write!(f, "0 or 2 to 9"),
-            _ => write!(f, "{} to {}", grouped(self.least), grouped(self.most)),
+            _ if self.least == self.most => write!(f, "has to be {}", grouped(self.least)),
+            "faces" => write!(f, "may be 1 or 6"),
+            "format" => write!(f, "may be 0 or 2 to 9"),
+            _ => write!(f, "may be {} to {}", grouped(self.least), grouped(self.most)),
         }
     }
 }

@@ -1,7 +1,7 @@
 //! The same blocks as the Rust crate texture2ddecoder 0.1.2: samples/answers.txt has its answers, and the gate's program crn_cases has the answers of its own.
 mod common;
 use common::{hash, root, sample};
-use crunch_proved::raw::{self, Palettes, PalettesMut, Record};
+use crunch_proved::raw::{self, Header, Palettes, PalettesMut, Record};
 use crunch_proved::{decode_crunch, Crn};
 
 #[test]
@@ -34,11 +34,54 @@ impl<'a> Cases<'a> {
     fn number(&mut self, n: usize) -> u64 {
         self.bytes(n).iter().rev().fold(0, |v, b| v << 8 | *b as u64)
     }
+
+    fn sized(&mut self) -> &'a [u8] {
+        let size = self.number(4) as usize;
+        self.bytes(size)
+    }
+
+    /// Makes the edits that come next in a record.
+    fn edits(&mut self, record: &mut Record) {
+        for _ in 0..self.number(1) {
+            let (field, at, value) = (self.number(1), self.number(4), self.number(4) as u32);
+            edit(record, field, at, value);
+        }
+    }
 }
 
-/// A record's numbers and lengths, as docs/CASES.md has them hashed.
-fn record_bytes(r: &Record) -> Vec<u8> {
-    let h = &r.header;
+/// Four palettes of so many words, filled.
+struct Lent {
+    colors: [Vec<u32>; 2],
+    alphas: [Vec<u16>; 2],
+}
+
+impl Lent {
+    fn new(words: &[usize], fill: u8) -> Lent {
+        let color = |n: usize| vec![fill as u32; words[n]];
+        let alpha = |n: usize| vec![fill as u16; words[n]];
+        Lent { colors: [color(0), color(1)], alphas: [alpha(2), alpha(3)] }
+    }
+
+    fn lend(&mut self) -> PalettesMut<'_> {
+        let ([ce, cs], [ae, al]) = (&mut self.colors, &mut self.alphas);
+        PalettesMut { color_endpoints: ce, color_selectors: cs, alpha_endpoints: ae, alpha_selectors: al }
+    }
+
+    fn lent(&self) -> Palettes<'_> {
+        let ([ce, cs], [ae, al]) = (&self.colors, &self.alphas);
+        Palettes { color_endpoints: ce, color_selectors: cs, alpha_endpoints: ae, alpha_selectors: al }
+    }
+
+    /// The line of an opening or a load.
+    fn told(&self, call: &str, refusal: u32, record: &Record) -> String {
+        let words = self.colors.iter().flatten().flat_map(|w| w.to_le_bytes());
+        let lent = words.chain(self.alphas.iter().flatten().flat_map(|w| w.to_le_bytes()));
+        format!("{call} {refusal} {:016x} {:016x}\n", hash(lent), hash(record_bytes(record)))
+    }
+}
+
+/// A header's numbers, as docs/CASES.md has them hashed.
+fn header_bytes(h: &Header) -> Vec<u8> {
     let mut words = vec![
         h.header_size,
         h.header_crc16,
@@ -59,8 +102,12 @@ fn record_bytes(r: &Record) -> Vec<u8> {
     }
     words.extend([h.tables_size, h.tables_offset]);
     words.extend(h.level_offsets);
-    let mut out: Vec<u8> = words.iter().flat_map(|w| w.to_le_bytes()).collect();
-    let t = &r.tables;
+    words.iter().flat_map(|w| w.to_le_bytes()).collect()
+}
+
+/// A record's numbers and lengths.
+fn record_bytes(r: &Record) -> Vec<u8> {
+    let (mut out, t) = (header_bytes(&r.header), &r.tables);
     for table in [&t.chunk_encoding, &t.color_endpoint_delta, &t.color_selector_delta, &t.alpha_endpoint_delta, &t.alpha_selector_delta] {
         out.extend(table.count.to_le_bytes());
         out.extend(table.lengths);
@@ -85,6 +132,21 @@ fn edit(r: &mut Record, field: u64, at: u64, value: u32) {
         10 => h.level_offsets.get_mut(at as usize).into_iter().for_each(|o| *o = value),
         11..=15 => tables.into_iter().nth(field as usize - 11).unwrap().count = value,
         16..=20 => tables.into_iter().nth(field as usize - 16).unwrap().lengths.get_mut(at as usize).into_iter().for_each(|l| *l = value as u8),
+        21 => h.header_size = value,
+        22 => h.header_crc16 = value,
+        23 => h.data_size = value,
+        24 => h.data_crc16 = value,
+        25 => h.flags = value,
+        26 => h.reserved = value,
+        27 => h.userdata0 = value,
+        28 => h.userdata1 = value,
+        29 => h.tables_size = value,
+        30 => h.tables_offset = value,
+        31..=38 => {
+            let parts = [&mut h.color_endpoints, &mut h.color_selectors, &mut h.alpha_endpoints, &mut h.alpha_selectors];
+            let part = parts.into_iter().nth((field as usize - 31) % 4).unwrap();
+            *(if field < 35 { &mut part.offset } else { &mut part.size }) = value;
+        }
         _ => {}
     }
 }
@@ -97,34 +159,36 @@ fn cases_are_answered_as_the_gates_program_answers_them() {
     // what a case has left in the record is nothing to the next
     let (mut out, mut record) = (String::new(), Record::empty());
     for _ in 0..cases.number(4) {
-        let size = cases.number(4) as usize;
-        let file = cases.bytes(size);
+        let file = cases.sized();
         let words: Vec<usize> = (0..4).map(|_| cases.number(4) as usize).collect();
         let fill = cases.number(1) as u8;
-        let (mut ce, mut cs) = (vec![fill as u32; words[0]], vec![fill as u32; words[1]]);
-        let (mut ae, mut al) = (vec![fill as u16; words[2]], vec![fill as u16; words[3]]);
-        let palettes = &mut PalettesMut { color_endpoints: &mut ce, color_selectors: &mut cs, alpha_endpoints: &mut ae, alpha_selectors: &mut al };
-        let opened = raw::open(file, palettes, &mut record);
-        let lent = ce.iter().chain(&cs).flat_map(|w| w.to_le_bytes()).chain(ae.iter().chain(&al).flat_map(|w| w.to_le_bytes()));
-        out += &format!("open {} {:016x} {:016x}\n", opened.refusal, hash(lent), hash(record_bytes(&record)));
-        for _ in 0..cases.number(1) {
-            let (field, at, value) = (cases.number(1), cases.number(4), cases.number(4) as u32);
-            edit(&mut record, field, at, value);
-        }
+        let mut lent = Lent::new(&words, fill);
+        let opened = raw::open(file, &mut lent.lend(), &mut record);
+        out += &lent.told("open", opened.refusal, &record);
+        cases.edits(&mut record);
         for _ in 0..cases.number(1) {
             let (level, pitch, distance) = (cases.number(4) as u32, cases.number(8) as usize, cases.number(8) as usize);
             let (mut budget, len) = (cases.number(8), cases.number(4) as usize);
             let mut dst = vec![fill; len];
-            let palettes = Palettes { color_endpoints: &ce, color_selectors: &cs, alpha_endpoints: &ae, alpha_selectors: &al };
-            let a = raw::unpack_level(&record, file, &palettes, level, pitch, distance, &mut budget, &mut dst);
+            let a = raw::unpack_level(&record, file, &lent.lent(), level, pitch, distance, &mut budget, &mut dst);
             out += &format!("level {} {} {} {budget} {:016x}\n", a.refusal, a.symbols, a.cutouts, hash(dst));
         }
         for _ in 0..cases.number(1) {
             let mut dst = vec![fill; cases.number(4) as usize];
-            let palettes = Palettes { color_endpoints: &ce, color_selectors: &cs, alpha_endpoints: &ae, alpha_selectors: &al };
-            let (w, needed) = (raw::write_dds(&record, file, &palettes, &mut dst), raw::dds_bytes(&record.header));
+            let (w, needed) = (raw::write_dds(&record, file, &lent.lent(), &mut dst), raw::dds_bytes(&record.header));
             let numbers = format!("{} {} {} {} {} {}", w.refusal, w.level, w.at, w.bytes, w.symbols, w.cutouts);
             out += &format!("dds {numbers} {:016x} {} {}\n", hash(dst), needed.refusal, needed.bytes);
+        }
+        for _ in 0..cases.number(1) {
+            let (head, len) = (cases.sized(), cases.number(4) as usize);
+            let looked = raw::look_at(head, len);
+            out += &format!("look {} {:016x}\n", looked.refusal, hash(header_bytes(&looked.header)));
+            record.header = looked.header;
+            cases.edits(&mut record);
+            // at 17 a record is left as it was: an empty one stays so
+            let (mut lent, mut loaded) = (Lent::new(&words, fill), Record::empty());
+            let answer = raw::load(&record.header, file, &mut lent.lend(), &mut loaded);
+            out += &lent.told("load", answer.refusal, &loaded);
         }
     }
     assert!(cases.0.is_empty());

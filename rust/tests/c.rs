@@ -211,6 +211,19 @@ fn the_c_header_is_the_archives() {
     let zero = hash([&vec![0; bytes], &before[bytes..]].concat());
     line("dds", &[0, bytes, 4, 2, 0, 0, drawn as usize, 0, zero as usize]);
     line("dds", &[16, 0, 16, 0, 0, 0, 0, 0, untouched]);
+    // in two calls, each as in one; then by a header with one field changed, which leaves record and palettes as they were
+    line("head", &[raw::HEAD_BYTES]);
+    for name in ["cube.crn", "dxt5.crn"] {
+        let (file, other) = (sample(name), sample("dxn.crn"));
+        let [own, cut] = [file.len(), file.len() - 1].map(|len| raw::look_at(&file[..122], len).refusal as usize);
+        line("looked", &[own, cut, 1]);
+        let [changed, foreign] = [17, 17];
+        line("loaded", &[0, 0, 1, changed, 0, 1, foreign, 1]);
+        line("parts", &[foreign, 0, 1, 1, 1]);
+        assert!(Crn::load(&Crn::look(&other).unwrap(), &file).is_err_and(|no| no.number() == 17));
+    }
+    // a segment that does not lie in the file: 17 by another header, and 4 by the file's own, which leaves an empty record
+    line("loaded", &[17, 1, 4, 0, 0]);
     line("empty", &[0, 0, 0]);
     line("refused", &[1, 1, 10, 2]);
     assert_eq!(c(&root("rust/tests/header.c"), &room), (0, asked, String::new()));
@@ -232,12 +245,13 @@ fn spoken(of: &str, function: &str, names: &[&str]) -> Vec<(u32, String)> {
 #[test]
 fn cs_sentences_are_the_packages() {
     use Refusal::*;
-    let names = "OK NOT_CRN LIMIT SIZE SEGMENT PALETTE TABLE CODE ENDED SELECTOR LEVEL PITCH DESTINATION CHUNK INDEX BUDGET FORMAT";
+    let first = "OK NOT_CRN LIMIT SIZE SEGMENT PALETTE TABLE CODE ENDED SELECTOR LEVEL PITCH DESTINATION CHUNK INDEX BUDGET FORMAT";
+    let names: Vec<&str> = first.split(' ').chain(["DISAGREES"]).collect();
     let all = [NotCrn, Limit, Size, Segment, Palette, Table, Code, Ended, Selector, Level, Pitch, Destination, Chunk, Index, Budget, Format];
     let mut asked = vec![(0, "nothing is refused".to_string())];
-    asked.extend(all.map(|refusal| (refusal.number(), refusal.sentence().to_string())));
-    assert_eq!(spoken("refusals-c", "crunch_refusal_sentence", &names.split(' ').collect::<Vec<_>>()), asked);
-    assert!(asked.iter().map(|(number, _)| *number).eq(0..17));
+    asked.extend(all.into_iter().chain([Disagrees]).map(|refusal| (refusal.number(), refusal.sentence().to_string())));
+    assert_eq!(spoken("refusals-c", "crunch_refusal_sentence", &names), asked);
+    assert!(asked.iter().map(|(number, _)| *number).eq(0..18));
 }
 
 #[test]
@@ -279,8 +293,10 @@ fn a_program_of_cpp_writes_what_rust_does() {
 fn a_pointer_of_length_0_may_be_null() {
     let asked = "\
 no file: 1 1
+no head: 1 1 1; loaded 17 17
 no palette, of four: 5 5 5 5 5
-no alpha: 0
+loaded: 5 5 5 5 5, no file 17
+no alpha: 0 0
 level: 0, no file 4, no palettes 5, no room 12, nothing 4
 levels: 0, no file 4, no palettes 5, no room 12, nothing 4
 dds: 0, no file 4, no palettes 5, no room 12, nothing 12

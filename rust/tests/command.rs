@@ -11,6 +11,9 @@ use std::sync::atomic::{AtomicUsize, Ordering};
 use std::sync::mpsc;
 use std::time::{Duration, Instant};
 
+/// The commands that take files.
+const VERBS: [&str; 5] = ["info", "look", "check", "unpack", "dds"];
+
 const NO_CRN: &str = "this is no CRN file: it does not begin with the letters Hx, or is shorter than any CRN file";
 
 #[test]
@@ -24,7 +27,8 @@ fn info_is_what_the_readme_shows() {
 
 #[test]
 fn other_commands_say_what_the_readme_shows() {
-    for command in ["head -c 500 samples/dxt5.crn | ./crn check - samples", "./crn dds samples/cube.crn -o - | wc -c"] {
+    let piped = "head -c 500 samples/dxt5.crn | ./crn check - samples";
+    for command in [piped, "./crn look samples", "./crn dds samples/cube.crn -o - | wc -c"] {
         let script = command.replace("./crn", env!("CARGO_BIN_EXE_crn"));
         let run = Command::new("sh").args(["-c", &script]).current_dir(root("")).output().unwrap();
         assert_eq!((String::from_utf8_lossy(&run.stdout), &run.stderr[..]), (shown(command).into(), &b""[..]));
@@ -290,7 +294,7 @@ fn no_dds_file_takes_anothers_place() {
 #[test]
 fn a_full_disk_is_told() {
     let full = std::fs::OpenOptions::new().write(true).open("/dev/full").unwrap();
-    for words in [&["info", "samples/dxn.crn"][..], &["check", "samples"], &["dds", "samples/dxn.crn", "-o", "-"]] {
+    for words in [&["info", "samples/dxn.crn"][..], &["look", "samples"], &["check", "samples"], &["dds", "samples/dxn.crn", "-o", "-"]] {
         let mut run = Command::new(env!("CARGO_BIN_EXE_crn"));
         let run = run.args(words).current_dir(root("")).stdout(full.try_clone().unwrap()).output().unwrap();
         assert_eq!(told(run), (3, String::new(), "crn: standard output: the disk is full\n".into()));
@@ -337,7 +341,7 @@ fn files_that_cant_be_read_are_told() {
     std::fs::create_dir(&none).unwrap();
     std::fs::File::create(&long).unwrap().set_len(1 << 32).unwrap();
     assert!(Command::new("mkfifo").arg(&pipe).status().unwrap().success());
-    for verb in ["info", "check", "unpack", "dds"] {
+    for verb in VERBS {
         for (name, why) in [
             ("nothing.crn", "there is no such file"),
             ("/dev/zero", "it is no file"),
@@ -347,7 +351,8 @@ fn files_that_cant_be_read_are_told() {
         ] {
             let (status, out, err) = told(crn(&[verb, name]));
             let all = if verb == "check" { "1 file: 0 accepted, 0 refused, 1 not read\n" } else { "" };
-            let said = if verb == "check" { out } else { format!("{out}{}", err.strip_prefix("crn: ").unwrap()) };
+            let told_in_its_place = ["check", "look"].contains(&verb);
+            let said = if told_in_its_place { out } else { format!("{out}{}", err.strip_prefix("crn: ").unwrap()) };
             assert_eq!((status, said), (3, format!("{name}: {why}\n{all}")), "{verb}");
         }
     }
@@ -363,7 +368,7 @@ fn files_that_cant_be_read_are_told() {
 fn refused_and_unreadable_are_told_apart_by_the_status() {
     let room = room("status");
     std::fs::write(room.join("empty.crn"), b"").unwrap();
-    for verb in ["info", "check", "unpack", "dds"] {
+    for verb in VERBS {
         for (words, asked) in [(vec!["empty.crn"], 1), (vec!["none.crn"], 3), (vec!["none.crn", "empty.crn"], 3), (vec!["--what"], 2)] {
             assert_eq!(crn_in(&room, &[&[verb], &words[..]].concat()).0, asked, "{verb} {words:?}");
         }
@@ -375,12 +380,15 @@ fn refused_and_unreadable_are_told_apart_by_the_status() {
 fn a_command_that_makes_no_sense_is_told() {
     for words in [
         &[][..],
-        &["look"],
-        &["help", "look"],
+        &["show"],
+        &["help", "show"],
         &["version", "2"],
         &["info"],
         &["info", "--force", "samples"],
         &["info", "-x", "samples"],
+        &["look"],
+        &["look", "--level", "0", "samples"],
+        &["look", "-", "-"],
         &["check"],
         &["check", "--xml", "samples"],
         &["check", "--json=yes", "samples"],
@@ -423,10 +431,10 @@ fn every_command_has_its_help() {
     assert!(status == 0 && err.is_empty() && all.starts_with("crn: what CRN files"), "{all}");
     assert!(all.lines().all(|line| line.chars().count() <= 120));
     assert_eq!(told(crn(&["--help"])).1, all);
-    for verb in ["info", "check", "unpack", "dds"] {
+    for verb in VERBS {
         let (status, part, err) = told(crn(&[verb, "samples", "--help"]));
         assert!(status == 0 && err.is_empty() && part.starts_with(&format!("  crn {verb} ")), "{part}");
-        assert!(["info", "check", "unpack", "dds"].iter().all(|other| part.contains(&format!("  crn {other} ")) == (*other == verb)));
+        assert!(VERBS.iter().all(|other| part.contains(&format!("  crn {other} ")) == (*other == verb)));
         assert!(all.contains(part.split("\n\n").next().unwrap()) && part.contains("Exit status: "));
         for words in [&[verb, "-h"][..], &[verb, "--help", "--what"], &["help", verb]] {
             assert_eq!(told(crn(words)), (0, part.clone(), String::new()));
@@ -470,8 +478,17 @@ fn standard_input_is_a_file() {
     std::fs::write(room.join("a.crn"), &file).unwrap();
     let (status, out, _) = crn_given(&room, &["info", "-"], &file);
     assert_eq!((status, out), (0, crn_in(&room, &["info", "a.crn"]).1.replace("a.crn", "standard input")));
-    let (status, out, _) = crn_given(&room, &["check", "--json", "-"], &file);
-    assert!(status == 0 && out.starts_with("{\"file\":\"-\",\"accepted\":true,"), "{out}");
+    for verb in ["check", "look"] {
+        let (status, out, _) = crn_given(&room, &[verb, "--json", "-"], &file);
+        assert!(status == 0 && out.starts_with("{\"file\":\"-\",\"accepted\":true,"), "{out}");
+        assert_eq!(crn_given(&room, &[verb, "-"], b"Hx").1.lines().next(), Some(&*format!("standard input: refused, 1: {NO_CRN}")));
+    }
+    // its bytes are counted, and none is kept
+    let mut long = file.clone();
+    long.resize(1_000_000, 7);
+    let asked = "{\"file\":\"-\",\"accepted\":true,\"bytes\":1000000,\"bytes_after_data\":999199,\"format_name\":\"DXT1\",";
+    assert!(crn_given(&room, &["look", "--json", "-"], &long).1.starts_with(asked));
+    assert_eq!(crn_given(&room, &["look", "-"], &file[..800]).0, 1);
     assert_eq!(crn_given(&room, &["check", "-", "a.crn"], b"Hx").1.lines().next(), Some(&*format!("standard input: refused, 1: {NO_CRN}")));
     assert_eq!(crn_given(&room, &["dds", "-"], &file), (0, "stdin.dds: 2,872 bytes, 7 levels, 1 face\n".into(), String::new()));
     let (status, out, _) = crn_given(&room, &["unpack", "--level", "6", "-"], &file);
@@ -480,9 +497,105 @@ fn standard_input_is_a_file() {
     std::fs::write(room.join("-"), b"x").unwrap();
     assert!(crn_in(&room, &["check", "./-"]).1.starts_with("./-: refused, 1: "));
     // without an end to it, the header is enough
-    let zeros = std::fs::File::open("/dev/zero").unwrap();
-    let run = Command::new(env!("CARGO_BIN_EXE_crn")).args(["check", "-"]).stdin(zeros).output().unwrap();
-    assert_eq!(told(run).0, 1);
+    for verb in ["check", "look"] {
+        let zeros = std::fs::File::open("/dev/zero").unwrap();
+        let run = Command::new(env!("CARGO_BIN_EXE_crn")).args([verb, "-"]).stdin(zeros).output().unwrap();
+        assert_eq!(told(run).0, 1);
+    }
+}
+
+#[test]
+fn look_tells_what_the_header_says() {
+    let room = room("look");
+    // levels and palettes are not looked at: a level that ends too soon, tables that are none, a file with bytes after its data
+    let spoilt = |at: usize, bytes: &[u8]| {
+        let mut file = sample("dxt5.crn");
+        file[at..at + bytes.len()].copy_from_slice(bytes);
+        file
+    };
+    let files = [
+        ("a.crn", common::cut_level()),
+        ("b.crn", spoilt(730, &[0xFF; 2])),
+        ("c.crn", marked()),
+        ("d.crn", spoilt(12, &5000u16.to_be_bytes())),
+        ("e.crn", sample("dxt5.crn")[..1004].to_vec()),
+        ("f.crn", b"Hx".to_vec()),
+    ];
+    files.iter().for_each(|(name, file)| std::fs::write(room.join(name), file).unwrap());
+    let limit = "the header is damaged or of another edition: its width, height, levels, faces, format or a palette's size is beyond what \
+        a CRN file can have (width is 5,000, and may be 1 to 4,096)";
+    let size = "the header is damaged or the file was cut short: its header size or data size does not fit the file (data_size is 1,005, \
+        and may be 0 to 1,004)";
+    let asked = format!(
+        "./a.crn: DXT1, 64 x 64 pixels, 7 levels, 1 face\n./b.crn: DXT5, 48 x 32 pixels, 6 levels, 1 face\n\
+         ./c.crn: DXT1, 16 x 16 pixels, 5 levels, 6 faces\n./d.crn: refused, 2: {limit}\n./e.crn: refused, 3: {size}\n\
+         ./f.crn: refused, 1: {NO_CRN}\n"
+    );
+    assert_eq!(crn_in(&room, &["look", "."]), (1, asked.clone(), String::new()));
+    assert_eq!(crn_in(&room, &["look", "--", ".", "none.crn"]), (3, format!("{asked}none.crn: there is no such file\n"), String::new()));
+    // what check says of the refused ones is the same
+    let check = crn_in(&room, &["check", "d.crn", "e.crn", "f.crn"]).1;
+    assert!(check.starts_with(&crn_in(&room, &["look", "d.crn", "e.crn", "f.crn"]).1), "{check}");
+}
+
+/// A line of JSON is that of `crn info` up to the levels, also of a file that is refused.
+#[test]
+fn look_as_json_is_what_info_says_without_the_levels() {
+    let room = room("look-json");
+    std::fs::write(room.join("a.crn"), marked()).unwrap();
+    std::fs::write(room.join("b.crn"), "x").unwrap();
+    std::fs::write(room.join("d.crn"), [&marked()[..12], &[0x10, 1], &marked()[14..]].concat()).unwrap();
+    std::fs::write(room.join("e.crn"), &marked()[..442]).unwrap();
+    let (status, out, err) = crn_in(&room, &["look", "--json", "a.crn", "b.crn", "c.crn", "d.crn", "e.crn"]);
+    assert_eq!((status, err.as_str()), (3, ""));
+    let info = crn_in(&room, &["info", "--json", "a.crn", "b.crn", "c.crn", "d.crn", "e.crn"]).1;
+    assert!(["\"width\":4097,", "\"reason\":\"width is 4,097, and may be 1 to 4,096\""].iter().all(|words| out.contains(words)), "{out}");
+    let (lines, asked): (Vec<&str>, Vec<&str>) = (out.lines().collect(), info.lines().collect());
+    assert_eq!(lines[0].strip_suffix('}'), asked[0].split_once(",\"levels\":[{").map(|(before, _)| before));
+    assert_eq!(lines[1..], asked[1..]);
+    for name in samples() {
+        let [look, info] = ["look", "info"].map(|verb| told(crn(&[verb, "--json", &format!("samples/{name}")])).1);
+        assert_eq!(look.trim_end().strip_suffix('}'), info.split_once(",\"levels\":[{").map(|(before, _)| before));
+    }
+}
+
+/// A library that tells of each `read` of a file how many bytes it gave: to be loaded before others.
+fn reads_told(room: &Path) -> std::path::PathBuf {
+    let source = "#define _GNU_SOURCE\n#include <stdio.h>\n#include <sys/stat.h>\n#include <sys/syscall.h>\n#include <unistd.h>\n\
+        ssize_t read(int from, void *into, size_t most)\n{\n    struct stat about;\n    ssize_t n = syscall(SYS_read, from, into, most);\n\
+        \x20   if (n > 0 && fstat(from, &about) == 0 && S_ISREG(about.st_mode))\n        dprintf(2, \"%zd\\n\", n);\n    return n;\n}\n";
+    std::fs::write(room.join("reads.c"), source).unwrap();
+    let library = room.join("reads.so");
+    let made = Command::new("cc").args(["-shared", "-fPIC", "-o"]).arg(&library).arg(room.join("reads.c")).status().unwrap();
+    assert!(made.success());
+    library
+}
+
+/// Of each file 122 bytes are read and no more, however long it is, and all of a shorter one; `check` reads what there is.
+#[test]
+fn look_reads_no_more_than_the_first_bytes() {
+    let room = room("look-reads");
+    let library = reads_told(&room);
+    std::fs::write(room.join("a.crn"), sample("dxt1.crn")).unwrap();
+    std::fs::write(room.join("b.crn"), [sample("cube.crn"), vec![7; 1 << 20]].concat()).unwrap();
+    std::fs::write(room.join("c.crn"), &sample("cube.crn")[..100]).unwrap();
+    std::fs::write(room.join("d.crn"), [0; 5000]).unwrap();
+    // 4 GB that nobody would want to read
+    std::fs::write(room.join("e.crn"), sample("dxt5.crn")).unwrap();
+    std::fs::File::options().write(true).open(room.join("e.crn")).unwrap().set_len(u32::MAX as u64).unwrap();
+    let reads = |verb: &str, name: &str| {
+        let mut run = Command::new(env!("CARGO_BIN_EXE_crn"));
+        let run = run.args([verb, "--jobs", "1", name]).env("LD_PRELOAD", &library).current_dir(&room);
+        let (status, out, err) = told(run.output().unwrap());
+        (status, out, err.lines().map(|line| line.parse::<u64>().unwrap()).sum::<u64>())
+    };
+    let (told, accepted) = ("a.crn: DXT1, 64 x 64 pixels, 7 levels, 1 face\n", "1 file: 1 accepted, 0 refused\n");
+    assert_eq!((reads("look", "a.crn"), reads("check", "a.crn")), ((0, told.into(), 122), (0, accepted.into(), 801)));
+    assert_eq!((reads("look", "b.crn").2, reads("check", "b.crn").2), (122, 443 + (1 << 20)));
+    assert_eq!((reads("look", "c.crn").0, reads("look", "c.crn").2), (1, 100));
+    assert_eq!((reads("look", "d.crn").0, reads("look", "d.crn").2), (1, 122));
+    assert_eq!(reads("look", "e.crn"), (0, "e.crn: DXT5, 48 x 32 pixels, 6 levels, 1 face\n".into(), 122));
+    assert_eq!(reads("look", ".").2, 4 * 122 + 100);
 }
 
 #[test]
@@ -508,10 +621,14 @@ fn check_finds_what_it_is_asked_for() {
         std::os::unix::fs::symlink(to, room.join(name)).unwrap();
     }
     let found = |words: &[&str], input: &[u8]| {
-        let (status, out, err) = crn_given(&room, &[&["check", "--json"], words].concat(), input);
-        assert_eq!(status, 0, "{out}{err}");
-        let name = |line: &str| line.split('"').nth(3).unwrap().to_string();
-        out.lines().map(name).collect::<Vec<_>>().join(" ")
+        let [check, look] = ["check", "look"].map(|verb| {
+            let (status, out, err) = crn_given(&room, &[&[verb, "--json"], words].concat(), input);
+            assert_eq!(status, 0, "{out}{err}");
+            let name = |line: &str| line.split('"').nth(3).unwrap().to_string();
+            out.lines().map(name).collect::<Vec<_>>().join(" ")
+        });
+        assert_eq!(check, look);
+        check
     };
     let all = "a/1.crn a/2.CRN a/b/4.crn a/b/6.crn a/b/c/5.crn a/new\\u000aline.crn a/z.crn";
     assert_eq!(found(&["a"], b""), all);
@@ -540,19 +657,25 @@ fn answers_come_in_order() {
         let file = if n % 7 == 0 { sample("dxt1.crn") } else { vec![b'H'; n] };
         std::fs::write(room.join(format!("{n:03}.crn")), file).unwrap();
     }
-    let run = |jobs: &str| crn_in(&room, &["check", "--json", "--jobs", jobs, "."]);
-    let one = run("1");
-    let order = one.1.lines().map(|line| line.split('"').nth(3).unwrap().to_string()).collect::<Vec<_>>();
-    assert_eq!(order, (0..600).map(|n| format!("./{n:03}.crn")).collect::<Vec<_>>());
-    for jobs in ["2", "7", "64"] {
-        assert!(run(jobs) == one, "{jobs}");
+    for verb in ["check", "look"] {
+        let run = |jobs: &str| crn_in(&room, &[verb, "--json", "--jobs", jobs, "."]);
+        let one = run("1");
+        let order = one.1.lines().map(|line| line.split('"').nth(3).unwrap().to_string()).collect::<Vec<_>>();
+        assert_eq!(order, (0..600).map(|n| format!("./{n:03}.crn")).collect::<Vec<_>>());
+        for jobs in ["2", "7", "64"] {
+            assert!(run(jobs) == one, "{verb} {jobs}");
+        }
     }
 }
 
 /// Names are read while files are checked: answers come before the list has its end.
 #[test]
 fn a_list_is_checked_while_it_is_written() {
-    let mut run = piped(Command::new(env!("CARGO_BIN_EXE_crn")).args(["check", "--json", "--files-from", "-"]).current_dir(root("")));
+    ["check", "look"].iter().for_each(|verb| answered_while_written(verb));
+}
+
+fn answered_while_written(verb: &str) {
+    let mut run = piped(Command::new(env!("CARGO_BIN_EXE_crn")).args([verb, "--json", "--files-from", "-"]).current_dir(root("")));
     let mut list = run.stdin.take().unwrap();
     let (send, receive) = mpsc::channel();
     let out = BufReader::new(run.stdout.take().unwrap());
@@ -571,12 +694,17 @@ fn a_list_is_checked_while_it_is_written() {
 /// While the first answer is missing, no more than so many names are read: else a slow file would fill the memory.
 #[test]
 fn nobody_gets_far_ahead_of_a_slow_file() {
+    ["check", "look"].iter().for_each(|verb| waits_for_a_slow_file(verb));
+}
+
+fn waits_for_a_slow_file(verb: &str) {
     let room = room("ahead");
     assert!(Command::new("mkfifo").arg(room.join("list")).status().unwrap().success());
-    let words = ["check", "--json", "--jobs", "2", "-", "--files-from", "list"];
+    let words = [verb, "--json", "--jobs", "2", "-", "--files-from", "list"];
     let mut run = piped(Command::new(env!("CARGO_BIN_EXE_crn")).args(words).current_dir(&room));
     const NAMES: usize = 50_000;
     static WRITTEN: AtomicUsize = AtomicUsize::new(0);
+    WRITTEN.store(0, Ordering::SeqCst);
     let path = room.join("list");
     let writer = std::thread::spawn(move || {
         let mut list = std::fs::File::options().write(true).open(path).unwrap();
@@ -699,6 +827,7 @@ fn nobody_has_to_read_what_went_wrong() {
         ("unpack no.crn", 1),
         ("dds no.crn none.crn", 3),
         ("dds no.crn -o -", 1),
+        ("look no.crn none.crn", 3),
         ("look", 2),
         ("check --what", 2),
         ("check . >/dev/full", 3),
@@ -782,7 +911,7 @@ fn a_files_name_may_be_any_bytes() {
     let name = room.join(OsStr::from_bytes(b"a\xffb.crn"));
     std::fs::write(&name, sample("dxn.crn")).unwrap();
     let into = room.to_str().unwrap();
-    for words in [&["info"][..], &["check"], &["unpack", "--level", "0", "--out", into], &["dds", "-d", into]] {
+    for words in [&["info"][..], &["look"], &["check"], &["unpack", "--level", "0", "--out", into], &["dds", "-d", into]] {
         let run = Command::new(env!("CARGO_BIN_EXE_crn")).args(words).arg(&name).output().unwrap();
         assert_eq!(told(run).0, 0, "{words:?}");
     }
@@ -817,10 +946,12 @@ fn no_name_forges_a_line_or_steers_a_terminal() {
             assert_eq!(run(&[verb, "--"]), (1, String::new(), format!("crn: {shown}: refused, 1: {NO_CRN}\n")), "{verb}");
         }
         assert!(run(&["check", "--"]).1.starts_with(&format!("{shown}: refused, 1: {NO_CRN}\n1 file: ")));
+        assert_eq!(run(&["look", "--"]), (1, format!("{shown}: refused, 1: {NO_CRN}\n"), String::new()));
         std::fs::remove_file(&file).unwrap();
         assert_eq!(run(&["info", "--"]).2, format!("crn: {shown}: there is no such file\n"));
         std::fs::write(&file, sample("dxn.crn")).unwrap();
         assert!(run(&["info", "--"]).1.starts_with(&format!("{shown}: 606 bytes, ")));
+        assert_eq!(run(&["look", "--"]).1, format!("{shown}: DXN XY, 32 x 32 pixels, 6 levels, 1 face\n"));
         let out = shown.replace(".crn\"", ".dds\"");
         assert_eq!(run(&["dds", "--"]), (0, format!("{out}: 1,520 bytes, 6 levels, 1 face\n"), String::new()));
         assert!(run(&["dds", "--"]).2.starts_with(&format!("crn: {out}: it is there already")));
@@ -853,7 +984,7 @@ fn json_has_names_without_loss() {
         name = bytes.fromhex(told['file_hex']) if 'file_hex' in told else told['file'].encode()\n \
         assert name.startswith(b'./') and os.path.exists(name) and line.isascii() == ('file_hex' not in told), line\n \
         print(told['accepted'])\n";
-    for verb in ["check", "info"] {
+    for verb in ["check", "look", "info"] {
         let (_, out, _) = crn_in(&room, &[verb, "--json", "."]);
         let mut run = piped(Command::new("python3").args(["-c", program]).current_dir(&room));
         run.stdin.take().unwrap().write_all(out.as_bytes()).unwrap();

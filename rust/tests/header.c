@@ -2,6 +2,7 @@
 #include <crunch.h>
 #include <inttypes.h>
 #include <stdio.h>
+#include <string.h>
 
 static uint8_t file[1 << 16], blocks[1 << 16];
 static uint32_t ce[8192], cs[8192];
@@ -107,12 +108,82 @@ static void as_dds(const char *name)
     written(bytes);
 }
 
+/* All that a load may write, and a copy of it. */
+static struct {
+    struct crunch_record record;
+    uint32_t ce[64], cs[64];
+    uint16_t ae[64], al[192];
+} lent, kept;
+
+#define LENT lent.ce, 64, lent.cs, 64, lent.ae, 64, lent.al, 192
+
+static int as_before(void)
+{
+    return memcmp(&lent, &kept, sizeof lent) == 0;
+}
+
+/* What was never zero: what is cleared is seen. */
+static void filled(void)
+{
+    memset(&lent, 0x5A, sizeof lent);
+    memcpy(&kept, &lent, sizeof lent);
+}
+
+/* A file looked at by its first bytes and loaded, against the same file opened; then by headers that are not its own. */
+static void in_two_calls(const char *name, const char *another)
+{
+    struct crunch_header other = crunch_look(file, sample(another)).header;
+    size_t size = sample(name);
+    struct crunch_looked l = crunch_look_at(file, CRUNCH_HEAD_BYTES, size), whole = crunch_look(file, size);
+    printf("looked %u %u %d\n", l.refusal, crunch_look_at(file, CRUNCH_HEAD_BYTES, size - 1).refusal, memcmp(&l, &whole, sizeof l) == 0);
+    filled();
+    crunch_open(&lent.record, file, size, LENT);
+    memcpy(&kept, &lent, sizeof lent);
+    memset(&lent, 0x5A, sizeof lent);
+    struct crunch_opened o = crunch_load(&lent.record, l.header, file, size, LENT);
+    int same = as_before();
+    filled();
+    struct crunch_header changed = l.header;
+    changed.level_offsets[12] ^= 1;
+    struct crunch_opened no = crunch_load(&lent.record, changed, file, size, LENT);
+    int left = as_before();
+    uint32_t foreign = crunch_load(&lent.record, other, file, size, LENT).refusal;
+    printf("loaded %u %zu %d %u %zu %d %u %d\n", o.refusal, o.at, same, no.refusal, no.at, left, foreign, as_before());
+    /* by its parts the answer has an empty header, and counts of 0 */
+    const struct crunch_header no_header = {0};
+    const struct crunch_counts no_counts = {0, 0, 0, 0, 0};
+    struct crunch_tables *t = &lent.record.tables;
+    struct crunch_opened_header parts = crunch_load_parts(
+        other, file, size, LENT, t->chunk_encoding.lengths, t->color_endpoint_delta.lengths, t->color_selector_delta.lengths,
+        t->alpha_endpoint_delta.lengths, t->alpha_selector_delta.lengths);
+    printf("parts %u %zu %d %d %d\n", parts.refusal, parts.at, memcmp(&parts.header, &no_header, sizeof no_header) == 0,
+           memcmp(&parts.counts, &no_counts, sizeof no_counts) == 0, as_before());
+}
+
+/* A file whose tables lie past its end, by another file's header and by its own. */
+static void in_two_calls_refused(void)
+{
+    size_t size = sample("dxt5.crn");
+    struct crunch_header before = crunch_look(file, size).header;
+    file[65] = file[66] = 0xFF;
+    filled();
+    uint32_t no = crunch_load(&lent.record, before, file, size, LENT).refusal;
+    int left = as_before();
+    struct crunch_opened o = crunch_load(&lent.record, crunch_look(file, size).header, file, size, LENT);
+    printf("loaded %u %d %u %zu %u\n", no, left, o.refusal, o.at, lent.record.header.width + lent.record.tables.chunk_encoding.count);
+}
+
 int main(void)
 {
     told("cube.crn");
     told("dxt5.crn");
     without_budget("cube.crn");
     as_dds("dxt5.crn");
+    printf("head %d\n", CRUNCH_HEAD_BYTES);
+    in_two_calls("cube.crn", "dxn.crn");
+    in_two_calls("dxt5.crn", "dxn.crn");
+    in_two_calls_refused();
+    sample("dxt5.crn");
     struct crunch_opened none = crunch_open(&record, file, 73, ALL);
     struct crunch_header h = crunch_look(file, sizeof file).header;
     struct crunch_header wide = h;

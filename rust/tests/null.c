@@ -15,6 +15,10 @@ int main(void)
     uint64_t budget = 1 << 20;
 
     printf("no file: %u %u\n", crunch_look(NULL, 0).refusal, crunch_open_with(&record, NULL, 0, &none).refusal);
+    struct crunch_header h = crunch_look_at(NULL, 0, 0).header;
+    printf("no head: %u %u %u; loaded %u %u\n", crunch_look_at(NULL, 0, 0).refusal, crunch_look_at(NULL, 0, 1000).refusal,
+           crunch_look_at(file, 0, 1000).refusal, crunch_load_with(&record, h, NULL, 0, &none).refusal,
+           crunch_load_with(&record, h, NULL, 0, &color).refusal);
 
     FILE *in = fopen("samples/dxt5.crn", "rb");
     size_t size = in ? fread(file, 1, sizeof file, in) : 0;
@@ -22,9 +26,17 @@ int main(void)
            crunch_open_with(&record, file, size, &selectors).refusal, crunch_open_with(&record, file, size, &endpoints).refusal,
            crunch_open_with(&record, file, size, &alpha).refusal, crunch_open_with(&record, file, size, &least).refusal);
 
+    h = crunch_look_at(file, CRUNCH_HEAD_BYTES, size).header;
+    printf("loaded: %u %u %u %u %u, no file %u\n", crunch_load_with(&record, h, file, size, &none).refusal,
+           crunch_load_with(&record, h, file, size, &selectors).refusal, crunch_load_with(&record, h, file, size, &endpoints).refusal,
+           crunch_load_with(&record, h, file, size, &alpha).refusal, crunch_load_with(&record, h, file, size, &least).refusal,
+           crunch_load_with(&record, h, NULL, 0, &least).refusal);
+
     in = fopen("samples/dxt1.crn", "rb");
     size = in ? fread(file, 1, sizeof file, in) : 0;
-    printf("no alpha: %u\n", crunch_open_with(&record, file, size, &color).refusal);
+    h = crunch_look(file, size).header;
+    printf("no alpha: %u %u\n", crunch_load_with(&record, h, file, size, &color).refusal,
+           crunch_open_with(&record, file, size, &color).refusal);
     struct crunch_sizes s = crunch_level_sizes(record.header, 0);
 
 #define LEVEL(file, size, palettes, dst, len) \

@@ -1,6 +1,6 @@
 //! Files read and opened: by readers, within limits, into buffers that are used again; and what a file may claim.
 mod common;
-use common::{cut_level, pattern, sample, samples};
+use common::{cut_level, pattern, room, sample, samples};
 use crunch_proved::{raw, Buffers, Claim, Crn, Format, Kind, Limits, NotRead, Refused};
 use std::alloc::{GlobalAlloc, Layout, System};
 use std::cell::Cell;
@@ -140,6 +140,92 @@ fn limits_are_looked_at_before_memory_is_taken() {
     let no = Crn::read_within(Drops(&long, &taken), &Limits::default().with_file_bytes(50_000)).unwrap_err();
     assert!(matches!(no, NotRead::OverLimit(over) if over.claim == Claim::File) && taken.get() == 50_001);
     assert!(Crn::read_within(&long[..], &Limits::default().with_file_bytes(100_000)).is_ok());
+}
+
+/// Of what is said to have so many bytes, a look reads the first 122; else it counts them, and stops where it is refused all the same.
+#[test]
+fn a_look_reads_no_more_than_it_needs() {
+    let mut long = sample("cube.crn");
+    long.resize(100_000, 7);
+    let mut wide = long.clone();
+    wide[12..14].fill(0xFF);
+    let mut claims = long.clone();
+    claims[6..10].copy_from_slice(&100_001u32.to_be_bytes());
+    let mut least = sample("cube.crn")[..100].to_vec();
+    least[6..10].fill(0);
+    let cases = [(&long, 0), (&wide, 2), (&claims, 3), (&least, 0), (&vec![0; 100_000], 1), (&vec![], 1)];
+    for (file, number) in cases {
+        let asked = Crn::look(file);
+        assert_eq!(asked.map_or_else(|no| no.number(), |_| 0), number);
+        for said in [Some(file.len() as u64), None, Some(0), Some(121)] {
+            let taken = Cell::new(0);
+            let (look, memory) = largest(|| Crn::look_read(Drops(file, &taken), said).map_err(refused));
+            assert_eq!(look, asked);
+            let needed = if said == Some(file.len() as u64) || matches!(number, 1 | 2) { 122 } else { file.len() };
+            assert_eq!((taken.get(), memory), (needed.min(file.len()), 0), "refused by {number}, and said to have {said:?}");
+        }
+    }
+    // what it is said to have counts, and where there is less it has ended
+    assert_eq!(refused(Crn::look_read(&long[..], Some(442)).unwrap_err()).number(), 3);
+    assert_eq!(Crn::look_read(&least[..], Some(1 << 40)).unwrap(), Crn::look(&least).unwrap());
+    assert_eq!(refused(Crn::look_read(&long[..], Some(1 << 32)).unwrap_err()).number(), 3);
+    // nothing is read that is not needed
+    assert_eq!(Crn::look_read(io::Read::chain(&long[..122], Broken), Some(100_000)).unwrap(), Crn::look(&long).unwrap());
+    let failing = io::Read::chain(&long[..122], Broken);
+    assert!(matches!(Crn::look_read(failing, None), Err(NotRead::Io(error)) if error.kind() == io::ErrorKind::TimedOut));
+    assert_eq!(refused(Crn::look_read(io::repeat(0), None).unwrap_err()).number(), 1);
+}
+
+#[test]
+fn a_look_at_a_path_takes_files_pipes_and_what_has_no_length() {
+    let room = room("look-path");
+    let path = |name: &str| room.join(name);
+    std::fs::write(path("a.crn"), sample("dxt1.crn")).unwrap();
+    assert_eq!(Crn::look_path(path("a.crn")).unwrap(), Crn::look(&sample("dxt1.crn")).unwrap());
+    // as long as a file can be, and a byte more
+    let file = std::fs::File::options().write(true).open(path("a.crn")).unwrap();
+    file.set_len(u32::MAX as u64).unwrap();
+    assert_eq!(Crn::look_path(path("a.crn")).unwrap(), Crn::look(&sample("dxt1.crn")).unwrap());
+    file.set_len(1 << 32).unwrap();
+    let no = refused(Crn::look_path(path("a.crn")).unwrap_err());
+    assert_eq!((no.number(), no.reason.map(|reason| reason.field)), (3, Some("file")));
+    file.set_len(800).unwrap();
+    assert_eq!(refused(Crn::look_path(path("a.crn")).unwrap_err()), Crn::look(&sample("dxt1.crn")[..800]).unwrap_err());
+    // a pipe has no length, and is counted; with a byte too few it is refused
+    for (name, cut, number) in [("whole", 0, 0), ("cut", 1, 3)] {
+        assert!(std::process::Command::new("mkfifo").arg(path(name)).status().unwrap().success());
+        let (pipe, mut bytes) = (path(name), sample("dxt5.crn"));
+        bytes.truncate(bytes.len() - cut);
+        let writer = std::thread::spawn(move || std::fs::write(pipe, bytes).unwrap());
+        let look = Crn::look_path(path(name)).map_err(refused);
+        assert_eq!(look.map_or_else(|no| no.number(), |_| 0), number, "{name}");
+        writer.join().unwrap();
+    }
+    // a file of the system that says it has none has some
+    assert_eq!(refused(Crn::look_path("/proc/self/maps").unwrap_err()).number(), 1);
+    assert!(matches!(Crn::look_path(path("none.crn")), Err(NotRead::Io(e)) if e.kind() == io::ErrorKind::NotFound));
+    assert!(matches!(Crn::look_path(&room), Err(NotRead::Io(_))));
+}
+
+/// A header that nobody's look gave takes no more memory than the largest that a look could give.
+#[test]
+fn a_header_that_claims_too_much_costs_little() {
+    let (file, mut claims) = (sample("dxt5.crn"), Crn::look(&sample("dxt5.crn")).unwrap());
+    let parts = [&mut claims.color_endpoints, &mut claims.color_selectors, &mut claims.alpha_endpoints, &mut claims.alpha_selectors];
+    parts.into_iter().for_each(|part| (part.count, part.size) = (u32::MAX, u32::MAX));
+    (claims.width, claims.levels, claims.level_offsets) = (u32::MAX, u32::MAX, [u32::MAX; 13]);
+    for file in [&file[..], &[]] {
+        let (no, memory) = largest(|| Crn::load(&claims, file).unwrap_err());
+        assert_eq!(no.number(), 17);
+        assert!(memory <= 3 * 8192 * 2, "{memory} bytes");
+    }
+    // and into buffers that are kept, nothing
+    let mut buffers = Buffers::new();
+    for round in 0..2 {
+        let (no, memory) = largest(|| Crn::load_with(&claims, &file, &mut buffers).unwrap_err().number());
+        assert!(no == 17 && (round == 0 || memory == 0), "{memory} bytes");
+    }
+    assert_eq!(Crn::load_with(&Crn::look(&file).unwrap(), &file, &mut buffers).unwrap().palettes().color_endpoints.len(), 30);
 }
 
 /// A few hundred bytes that claim up to a hundred million: the refusal is that of a destination of the whole size, number and bit, and the

@@ -31,6 +31,11 @@ static void look(void)
     refusal = crunch_look(file, size).refusal;
 }
 
+static void look_at(void)
+{
+    refusal = crunch_look_at(file, size < CRUNCH_HEAD_BYTES ? size : CRUNCH_HEAD_BYTES, size).refusal;
+}
+
 static void palette_words(void)
 {
     refusal = crunch_palette_words(record.header).color_endpoints > 8192;
@@ -39,6 +44,11 @@ static void palette_words(void)
 static void open_parts(void)
 {
     refusal = crunch_open_with(&record, file, size, &palettes).refusal;
+}
+
+static void load_parts(void)
+{
+    refusal = crunch_load_with(&record, crunch_look(file, size).header, file, size, &palettes).refusal;
 }
 
 static void level_sizes(void)
@@ -115,7 +125,9 @@ static void measure_all(const char *path, uint32_t symbols)
     printf("%s\n", path);
     measure("abi_version", abi_version);
     measure("look", look);
+    measure("look_at", look_at);
     measure("open_parts", open_parts);
+    measure("load_parts", load_parts);
     struct crunch_tables *t = &record.tables;
     struct crunch_table *tables[] = {&t->chunk_encoding, &t->color_endpoint_delta, &t->color_selector_delta, &t->alpha_endpoint_delta,
                                      &t->alpha_selector_delta};

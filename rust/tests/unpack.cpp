@@ -1,6 +1,8 @@
 // unpack CRN BLOCKS DDS: a CRN file's levels, one by one and all at once, as raw blocks and as a DDS file.
 #include <crunch.h>
 
+#include <algorithm>
+#include <cstring>
 #include <fstream>
 #include <iostream>
 #include <iterator>
@@ -28,7 +30,8 @@ int main(int argc, char **argv)
     const std::vector<char> chars((std::istreambuf_iterator<char>(in)), std::istreambuf_iterator<char>());
     const std::vector<uint8_t> file(chars.begin(), chars.end());
 
-    const crunch_looked looked = crunch_look(file.data(), file.size());
+    // by its first bytes, as a crawler has them
+    const crunch_looked looked = crunch_look_at(file.data(), std::min<size_t>(file.size(), CRUNCH_HEAD_BYTES), file.size());
     if (!went_through("look", looked.refusal))
         return 1;
     const crunch_words words = crunch_palette_words(looked.header);
@@ -39,7 +42,14 @@ int main(int argc, char **argv)
         alpha_endpoints.data(), alpha_endpoints.size(), alpha_selectors.data(), alpha_selectors.size(),
     };
     std::vector<crunch_record> crn(1);
-    if (!went_through("open", crunch_open_with(&crn[0], file.data(), file.size(), &palettes).refusal))
+    if (!went_through("load", crunch_load_with(&crn[0], looked.header, file.data(), file.size(), &palettes).refusal))
+        return 1;
+    // in one call it is the same, and by another header nothing is written
+    std::vector<crunch_record> opened(1);
+    const crunch_header none = {};
+    if (!went_through("open", crunch_open_with(&opened[0], file.data(), file.size(), &palettes).refusal) ||
+        crunch_load_with(&opened[0], none, file.data(), file.size(), &palettes).refusal != CRUNCH_DISAGREES ||
+        std::memcmp(&opened[0], &crn[0], sizeof opened[0]) != 0)
         return 1;
     const crunch_header &header = crn[0].header;
     std::cout << crunch_format_name(header.format) << " " << header.width << " " << header.height << "\n";

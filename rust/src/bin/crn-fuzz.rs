@@ -1,10 +1,10 @@
 //! `crn-fuzz [--seed S] (--rounds N | MINUTES) FILE..`: damaged files and wild arguments for the package's functions, with guards around every buffer. What a call may
-//! answer and leave is held to the promises: see `opened`, `told`, `level_told`, `unpacked` and `written`. It ends at the first broken one, with the seed of the
-//! round that broke it.
+//! answer and leave is held to the promises: see `looked`, `opened`, `loaded`, `told`, `level_told`, `unpacked` and `written`. It ends at
+//! the first broken one, with the seed of the round that broke it.
 #![forbid(unsafe_code)]
 
-use crunch_proved::raw::{self, Opened, Palettes, PalettesMut, Part, Record};
-use crunch_proved::{Buffers, Crn, Header, Limits, NotRead};
+use crunch_proved::raw::{self, Looked, Opened, Palettes, PalettesMut, Part, Record, HEAD_BYTES};
+use crunch_proved::{Buffers, Crn, Header, Limits, NotRead, Refusal, Refused};
 use std::time::{Duration, Instant};
 
 /// Marsaglia's xorshift, of 64 bits.
@@ -48,6 +48,7 @@ impl Dice {
 }
 
 /// A buffer between two guards.
+#[derive(Clone)]
 struct Guarded<T> {
     all: Vec<T>,
     len: usize,
@@ -78,6 +79,7 @@ impl<T: Copy + PartialEq + From<u8>> Guarded<T> {
 }
 
 /// The four palettes' buffers.
+#[derive(Clone)]
 struct Lent {
     ce: Guarded<u32>,
     cs: Guarded<u32>,
@@ -88,6 +90,11 @@ struct Lent {
 impl Lent {
     fn read(&self) -> Palettes<'_> {
         Palettes { color_endpoints: self.ce.held(), color_selectors: self.cs.held(), alpha_endpoints: self.ae.held(), alpha_selectors: self.al.held() }
+    }
+
+    fn write(&mut self) -> PalettesMut<'_> {
+        let Lent { ce, cs, ae, al } = self;
+        PalettesMut { color_endpoints: ce.lent(), color_selectors: cs.lent(), alpha_endpoints: ae.lent(), alpha_selectors: al.lent() }
     }
 
     /// Each word, of 32 bits, of the four buffers.
@@ -107,9 +114,10 @@ impl Lent {
 /// How often each answer came, by its number.
 #[derive(Default)]
 struct Tally {
-    opened: [u64; 17],
-    unpacked: [u64; 17],
-    written: [u64; 17],
+    opened: [u64; 18],
+    loaded: [u64; 18],
+    unpacked: [u64; 18],
+    written: [u64; 18],
 }
 
 fn damaged(file: &[u8], dice: &mut Dice) -> Vec<u8> {
@@ -142,21 +150,47 @@ fn used() -> Box<Record> {
     record
 }
 
-/// A file opened. Refused by 1 to 5 it leaves the buffers untouched, by 6 to 9 zero, and by all an empty record; accepted, it leaves what lies beyond each palette
-/// untouched.
-fn opened(file: &[u8], near: bool, dice: &mut Dice, tally: &mut Tally) -> (Opened, Box<Record>, Lent) {
+/// A file looked at: by its first bytes, whatever follows them there, as by the whole.
+fn looked(file: &[u8], dice: &mut Dice) -> Looked {
     let looked = raw::look(file);
+    let head = &file[..file.len().min(HEAD_BYTES)];
+    let noise: Vec<u8> = (0..dice.below(40)).map(|_| dice.next() as u8).collect();
+    assert_eq!(raw::look_at(head, file.len()), looked, "the first bytes are looked at otherwise");
+    if head.len() == HEAD_BYTES {
+        assert_eq!(raw::look_at(&[head, &noise[..]].concat(), file.len()), looked, "bytes after the first have a say");
+    }
+    assert!(looked.refusal == 0 || looked.header == Header::default(), "refused, and there is a header");
+    let (len, whole) = (file.len() as u64, Crn::look(file));
+    let read = Crn::look_read(file, dice.one_in(2).then_some(len)).map_err(refusal);
+    assert!(whole == read && whole == Crn::look_at(head, len), "the package's looks part ways");
+    assert_eq!((whole.map_or_else(|no| no.number(), |_| 0), whole.unwrap_or_default()), (looked.refusal, looked.header));
+    looked
+}
+
+fn refusal(not: NotRead) -> Refused {
+    match not {
+        NotRead::Refused(no) => no,
+        other => panic!("{other}"),
+    }
+}
+
+/// A file opened. Refused by 1 to 5 it leaves the buffers untouched, by 6 to 9 zero, and by all an empty record; accepted, it leaves what lies beyond each palette
+/// untouched. Loaded by what the look gave, it is the same, with all that is left.
+fn opened(file: &[u8], near: bool, dice: &mut Dice, tally: &mut Tally) -> (Opened, Box<Record>, Lent) {
+    let looked = looked(file, dice);
     let words = raw::palette_words(&looked.header);
     let mut len = |n: usize| if near { (dice.wild(n as u64) as usize).min(30_000) } else { n };
     let lens = [len(words.color_endpoints), len(words.color_selectors), len(words.alpha_endpoints), len(words.alpha_selectors)];
     let mut lent = Lent { ce: Guarded::new(lens[0], dice), cs: Guarded::new(lens[1], dice), ae: Guarded::new(lens[2], dice), al: Guarded::new(lens[3], dice) };
-    let (before, mut record) = (lent.words(), used());
-    let o = raw::open(
-        file,
-        &mut PalettesMut { color_endpoints: lent.ce.lent(), color_selectors: lent.cs.lent(), alpha_endpoints: lent.ae.lent(), alpha_selectors: lent.al.lent() },
-        &mut record,
-    );
+    let (before, mut record, mut other) = (lent.words(), used(), lent.clone());
+    let o = raw::open(file, &mut lent.write(), &mut record);
     lent.check();
+    if looked.refusal == 0 {
+        let (answer, left) = loaded(&looked.header, file, &mut other, tally);
+        assert!(answer == o && left == record && other.words() == lent.words(), "a load after a look is no opening");
+    } else {
+        disagrees(&looked.header, file, other, tally);
+    }
     let after = lent.words();
     tally.opened[o.refusal as usize] += 1;
     assert!(matches!(o.refusal, 0..=9), "opening gave {}", o.refusal);
@@ -173,6 +207,56 @@ fn opened(file: &[u8], near: bool, dice: &mut Dice, tally: &mut Tally) -> (Opene
     assert!(o.refusal == 0 || record == Record::empty(), "refused by {}, and the record is not empty", o.refusal);
     assert!(near || o.refusal != 5, "palettes of the words that were told are too short");
     (o, record, lent)
+}
+
+/// A file loaded by a header.
+fn loaded(header: &Header, file: &[u8], lent: &mut Lent, tally: &mut Tally) -> (Opened, Box<Record>) {
+    let mut record = used();
+    let answer = raw::load(header, file, &mut lent.write(), &mut record);
+    lent.check();
+    tally.loaded[answer.refusal as usize] += 1;
+    (answer, record)
+}
+
+/// A file loaded by a header that is not its own: refused by 17, with all that was lent as it was.
+fn disagrees(header: &Header, file: &[u8], mut lent: Lent, tally: &mut Tally) {
+    let before = lent.words();
+    let (answer, record) = loaded(header, file, &mut lent, tally);
+    assert_eq!((answer.refusal, answer.at), (17, 0), "a header that is not the file's");
+    assert!(before == lent.words() && record == used(), "refused by 17, and something was written");
+}
+
+/// Loads by headers that are not the file's: with one number changed, and another file's. The package says the same of them, and which
+/// field it is.
+fn foreign(file: &[u8], other: &[u8], lent: &Lent, buffers: &mut Buffers, dice: &mut Dice, tally: &mut Tally) {
+    let own = raw::look(file);
+    let mut changed = own.header;
+    let all = numbers(&mut changed);
+    let n = dice.below(all.len());
+    let Some(number) = all.into_iter().nth(n) else { return };
+    *number = dice.wild(*number as u64) as u32;
+    for header in [changed, raw::look(other).header] {
+        if own.refusal == 0 && header == own.header {
+            assert_eq!(Crn::load_with(&header, file, buffers).err(), Crn::open(file).err(), "a load and an opening part ways");
+            continue;
+        }
+        disagrees(&header, file, lent.clone(), tally);
+        let no = Crn::load_with(&header, file, buffers).map(|_| ()).expect_err("a header that is not the file's was taken");
+        assert_eq!((no.refusal, no.file.map_or(0, Refusal::number)), (Refusal::Disagrees, own.refusal), "{no}");
+        assert!(own.refusal != 0 || no.reason.is_some_and(|r| r.value != r.least && r.least == r.most), "{no}");
+    }
+}
+
+/// Every number of a header.
+fn numbers(h: &mut Header) -> Vec<&mut u32> {
+    let mut all = vec![&mut h.header_size, &mut h.header_crc16, &mut h.data_size, &mut h.data_crc16, &mut h.width, &mut h.height];
+    all.extend([&mut h.levels, &mut h.faces, &mut h.format, &mut h.flags, &mut h.reserved, &mut h.userdata0, &mut h.userdata1]);
+    for part in [&mut h.color_endpoints, &mut h.color_selectors, &mut h.alpha_endpoints, &mut h.alpha_selectors] {
+        all.extend([&mut part.offset, &mut part.size, &mut part.count]);
+    }
+    all.extend([&mut h.tables_size, &mut h.tables_offset]);
+    all.extend(&mut h.level_offsets);
+    all
 }
 
 /// A level unpacked. Its symbols are taken off the budget. Refused before its first draw it leaves the destination untouched, refused later it leaves its blocks zero;
@@ -389,6 +473,7 @@ fn round(samples: &[Vec<u8>], seed: u64, buffers: &mut Buffers, tally: &mut Tall
     if !near {
         told(&file, refusal, at, buffers);
     }
+    foreign(&file, &samples[dice.below(samples.len())], &lent, buffers, dice, tally);
     if let Ok(crn) = Crn::open_with(&file, buffers) {
         level_told(&crn, dice.below(20) as u32);
         if crn.dds_bytes().is_ok() {
@@ -444,8 +529,8 @@ fn main() {
         n += 1;
     }
     println!("{n} rounds from seed {first}, no promise broken");
-    for (what, counts) in [("opened", tally.opened), ("unpacked", tally.unpacked), ("written", tally.written)] {
-        let refused: Vec<String> = (1..17).filter(|r| counts[*r] > 0).map(|r| format!("{} by {r}", counts[r])).collect();
+    for (what, counts) in [("opened", tally.opened), ("unpacked", tally.unpacked), ("written", tally.written), ("loaded", tally.loaded)] {
+        let refused: Vec<String> = (1..18).filter(|r| counts[*r] > 0).map(|r| format!("{} by {r}", counts[r])).collect();
         println!("{what}: {} accepted; refused: {}", counts[0], refused.join(", "));
     }
 }

@@ -1,5 +1,6 @@
 //! What the tests share.
 #![allow(dead_code)]
+use crunch_proved::Header;
 use std::path::{Path, PathBuf};
 use std::process::{Command, Output};
 
@@ -36,6 +37,41 @@ pub fn of_format(name: &str, format: u8) -> Vec<u8> {
 /// What a destination holds before a call: bytes none of which is zero, so that one that was cleared is seen.
 pub fn pattern(len: usize) -> Vec<u8> {
     (0..len).map(|i| (i % 251) as u8 + 1).collect()
+}
+
+/// Every number of a header, in the header's order, with its name.
+pub fn fields(h: &mut Header) -> Vec<(String, &mut u32)> {
+    let plain = |name: &str, field| (name.to_string(), field);
+    let mut all = vec![
+        plain("header_size", &mut h.header_size),
+        plain("header_crc16", &mut h.header_crc16),
+        plain("data_size", &mut h.data_size),
+        plain("data_crc16", &mut h.data_crc16),
+        plain("width", &mut h.width),
+        plain("height", &mut h.height),
+        plain("levels", &mut h.levels),
+        plain("faces", &mut h.faces),
+        plain("format", &mut h.format),
+        plain("flags", &mut h.flags),
+        plain("reserved", &mut h.reserved),
+        plain("userdata0", &mut h.userdata0),
+        plain("userdata1", &mut h.userdata1),
+    ];
+    let parts = [
+        ("color_endpoints", &mut h.color_endpoints),
+        ("color_selectors", &mut h.color_selectors),
+        ("alpha_endpoints", &mut h.alpha_endpoints),
+        ("alpha_selectors", &mut h.alpha_selectors),
+    ];
+    for (name, part) in parts {
+        all.push((format!("{name}.offset"), &mut part.offset));
+        all.push((format!("{name}.size"), &mut part.size));
+        all.push((format!("{name}.count"), &mut part.count));
+    }
+    all.extend([plain("tables_size", &mut h.tables_size), plain("tables_offset", &mut h.tables_offset)]);
+    all.extend(h.level_offsets.iter_mut().enumerate().map(|(n, offset)| (format!("level_offsets[{n}]"), offset)));
+    assert_eq!(all.len() * 4, std::mem::size_of::<Header>());
+    all
 }
 
 /// FNV-1a of 64 bits.

@@ -4,7 +4,7 @@ use crate::fault::{self, Fault};
 use crate::files::{in_order, Found, Input};
 use crate::{json, say, Failure, Status};
 use crunch_proved::raw::Part;
-use crunch_proved::{Buffers, Crn, Format, Header};
+use crunch_proved::{Buffers, Crn, Header};
 use std::fmt::Display;
 
 pub const VERB: Verb = Verb { name: "info", usage: crate::INFO, flags: &["--json"], values: &[], run };
@@ -80,11 +80,6 @@ impl<'a> About<'a> {
         levels.chain(&self.fault).map(of).max().unwrap_or(Status::Done)
     }
 
-    /// The bytes after those that the header counts; nothing where the file is shorter or its length not known.
-    fn after(&self) -> Option<u64> {
-        self.bytes.zip(self.header).and_then(|(bytes, header)| bytes.checked_sub(header.data_size.into()))
-    }
-
     /// The header's lines, the levels' table, and the refusal where there is one.
     fn text(&self) -> Result<String, String> {
         let told = |fault: &Fault| format!("{}: {fault}", self.input.shown());
@@ -92,11 +87,8 @@ impl<'a> About<'a> {
             return Err(self.fault.as_ref().map(told).unwrap_or_default());
         };
         let bytes = self.bytes.map_or(String::new(), |bytes| say::count(bytes, "byte") + ", ");
-        let format = Format::of(h.format).map_or_else(|| format!("format {}", h.format), |format| format.name().into());
-        let pixels = format!("{} x {} pixels", h.width, h.height);
-        let (levels, faces) = (say::count(h.levels.into(), "level"), say::count(h.faces.into(), "face"));
-        let mut out = format!("{}: {bytes}{format}, {pixels}, {levels}, {faces}\n", self.input.shown());
-        let after = self.after().map_or(String::new(), |after| format!(", {} after the data", say::count(after, "byte")));
+        let mut out = format!("{}: {bytes}{h}\n", self.input.shown());
+        let after = after(self.bytes, h).map_or(String::new(), |after| format!(", {} after the data", say::count(after, "byte")));
         let data = say::count(h.data_size.into(), "byte");
         out += &format!(
             "  header: {}, stored CRC {:04x}; data: {data}, stored CRC {:04x}{after}\n",
@@ -122,12 +114,7 @@ impl<'a> About<'a> {
     /// All of it, as one line.
     fn json(&self) -> String {
         let mut told = vec![self.input.json()];
-        told.push(json::fields(&[("accepted", &(self.status() == Status::Done)), ("bytes", &json::or_null(self.bytes))]));
-        if let Some(h) = &self.header {
-            let format = Format::of(h.format).map(|format| json::text(format.name()));
-            told.push(json::fields(&[("bytes_after_data", &json::or_null(self.after())), ("format_name", &json::or_null(format))]));
-            told.push(format!("\"header\":{}", header(h)));
-        }
+        told.push(as_json(self.status() == Status::Done, self.bytes, self.header.as_ref()));
         if !self.levels.is_empty() {
             let levels: Vec<String> = self.levels.iter().enumerate().map(|(n, level)| level.json(n)).collect();
             told.push(format!("\"levels\":[{}]", levels.join(",")));
@@ -172,6 +159,22 @@ impl Level {
     }
 }
 
+/// The bytes after those that the header counts; nothing where the file is shorter or its length not known.
+fn after(bytes: Option<u64>, h: &Header) -> Option<u64> {
+    bytes?.checked_sub(h.data_size.into())
+}
+
+/// Whether a file was accepted, how many bytes it has and its header, as fields of JSON, as far as they are known.
+pub fn as_json(accepted: bool, bytes: Option<u64>, header: Option<&Header>) -> String {
+    let mut told = json::fields(&[("accepted", &accepted), ("bytes", &json::or_null(bytes))]);
+    if let Some(h) = header {
+        let format = h.format().map(|format| json::text(format.name()));
+        let fields = json::fields(&[("bytes_after_data", &json::or_null(after(bytes, h))), ("format_name", &json::or_null(format))]);
+        told += &format!(",{fields},\"header\":{}", all_fields(h));
+    }
+    told
+}
+
 fn palettes(h: &Header) -> [(&'static str, &'static str, Part); 4] {
     [
         ("color_endpoints", "colour endpoint", h.color_endpoints),
@@ -182,7 +185,7 @@ fn palettes(h: &Header) -> [(&'static str, &'static str, Part); 4] {
 }
 
 /// Every field of a header, as JSON.
-fn header(h: &Header) -> String {
+fn all_fields(h: &Header) -> String {
     let fields = json::fields(&[
         ("header_size", &h.header_size),
         ("header_crc16", &h.header_crc16),

@@ -11,6 +11,7 @@ mod files;
 mod grouped;
 mod info;
 mod json;
+mod look;
 mod names;
 mod say;
 // the only `unsafe` of the command: what std lacks to leave nothing behind at a signal
@@ -28,6 +29,12 @@ const ABOUT: &str = "crn: what CRN files (crunched DXT textures) hold\n";
 const INFO: &str = "
   crn info [--json] INPUT..
       a table for each file: its header, palettes and levels, also of a file that is refused, as far as it can be told
+";
+
+const LOOK: &str = "
+  crn look [--json] INPUT..
+      a line for each file: its format, pixels, levels and faces, by its header alone. Of a file on disk no more is read
+      than its first 122 bytes: a file that is accepted here may be refused by the other commands
 ";
 
 const CHECK: &str = "
@@ -53,7 +60,7 @@ const SHARED: &str = "
       --files-from LIST   also each INPUT that the file LIST (or -, standard input) names, one a line
       --null              names in LIST end with a zero byte
       --jobs N            so many files at a time, 1 to 1024; if not given, one for each processor
-      --json              a line of JSON for each file (info, check)
+      --json              a line of JSON for each file (info, look, check)
       --force             replace files that are there (unpack, dds)
       --                  all words after it are INPUT
       -h, --help          this, for one command
@@ -67,7 +74,7 @@ const OTHERS: &str = "
   crn version
 ";
 
-const VERBS: [Verb; 4] = [info::VERB, check::VERB, unpack::VERB, dds::VERB];
+const VERBS: [Verb; 5] = [info::VERB, look::VERB, check::VERB, unpack::VERB, dds::VERB];
 
 /// How a command ended that made sense; of several the worst counts.
 #[derive(Clone, Copy, PartialEq, Eq, PartialOrd, Ord)]
