@@ -1,11 +1,14 @@
 #!/usr/bin/env python3
-"""files.py SHARED OUT WHICH: the files of a benchmark (opens, table, dds), made of the parts of SHARED/oracle/mkcrn.py from fixed seeds.
+"""files.py SHARED OUT WHICH: the files of a benchmark (opens, table, dds, looks), made of the parts of SHARED/oracle/mkcrn.py from fixed
+seeds.
 
 - OUT/CODES-FORMAT-ENTRIES-N.crn, for bench/opens.rs: every palette has ENTRIES entries; one level is there for the code tables that it needs. CODES is `any` for
   the generator's codes, whose lengths have nothing to do with how often a symbol comes, and `fitted` for Huffman's, as an encoder makes them.
-- OUT/level-FORMAT-SIDE.crn, for bench/table.rs and bench/dds.rs: square, all levels; deltas are mostly small, and codes are fitted.
+- OUT/level-FORMAT-SIDE.crn, for bench/table.rs, bench/dds.rs and bench/looks.rs: square, all levels; deltas are mostly small, and codes
+  are fitted.
 - OUT/cube-FORMAT-SIDE.crn, for bench/dds.rs: the same with six faces.
-- OUT/small-NNN.crn, for bench/table.rs: a thousand like these, the formats by turns, of 4 to 64 pixels a side and 10 to 60 entries a palette."""
+- OUT/small-NNN.crn, for bench/table.rs and bench/looks.rs: a thousand like these, the formats by turns, of 4 to 64 pixels a side and 10
+  to 60 entries a palette."""
 import collections
 import heapq
 import os
@@ -123,7 +126,7 @@ def main(out, which):
         for_opens(out)
     else:
         with_levels(out, 'level', ENTRIES)
-    if which == 'table':
+    if which in ('table', 'looks'):
         small(out)
     if which == 'dds':
         with_levels(out, 'cube', [64, 256, 1024], 6)
