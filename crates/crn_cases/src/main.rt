@@ -63,6 +63,21 @@ fn take(buffer: &mut [u8]) -> bool {
     io::read_full(STDIN_FILENO, buffer) == wanted
 }
 
+// A number as the input has it; not whole where the input ends too early.
+struct Number {
+    whole: bool,
+    value: usize,
+}
+
+fn take_number() -> Number {
+    let mut bytes = [0u8; 4];
+    let whole = take(&mut bytes);
+    Number {
+        whole: whole,
+        value: crn_utils::little32(&bytes, 0) as usize,
+    }
+}
+
 fn fill32(words: &mut [u32], value: u32) {
     let mut i: usize = 0;
     while i < words.len() {
@@ -393,11 +408,11 @@ fn dds_call(
     value: u8,
     space: &mut [u8],
 ) -> u32 {
-    let mut head = [0u8; 4];
-    if !take(&mut head) {
+    let t = take_number();
+    let n = t.value;
+    if !t.whole {
         return 1;
     }
-    let n = crn_utils::little32(&head, 0) as usize;
     if space.len() < n {
         return 2;
     }
@@ -476,11 +491,11 @@ fn load_call(
     if t.ended != 0 {
         return t.ended;
     }
-    let mut number = [0u8; 4];
-    if !take(&mut number) {
+    let length = take_number();
+    if !length.whole {
         return 1;
     }
-    let header = look_and_say(&head[..n], crn_utils::little32(&number, 0) as usize);
+    let header = look_and_say(&head[..n], length.value);
     let tables = file.tables;
     let e = take_edits(Record {
         header: header,
@@ -886,11 +901,11 @@ struct Taken {
 fn take_sized(buffer: &mut [u8]) -> Taken
     ensures { λ r. ⌜ r .size ≤ length (now (buffer .entry)) ⌝ }
 {
-    let mut head = [0u8; 4];
-    if !take(&mut head) {
+    let t = take_number();
+    let n = t.value;
+    if !t.whole {
         return Taken { ended: 1, size: 0 };
     }
-    let n = crn_utils::little32(&head, 0) as usize;
     if buffer.len() < n {
         return Taken { ended: 2, size: 0 };
     }

@@ -5,23 +5,11 @@ use borrow.Author.Needs.{needs}
 use Rattle.crn_cases.proofs.dds_call.Statement.{statement}
 use Rattle.crn_cases.proofs.dds_call.Tie as tie
 
-slice-aggregate-take : tie.Need-slice-aggregate-take
-slice-aggregate-take c = search needs
-
-take-requires : tie.Need-take-requires
-take-requires c κs = search needs
+take-number-requires : tie.Need-take-number-requires
+take-number-requires c κs = search needs
 
 returns : tie.Need-returns
 returns c = search needs
-
-slice-aggregate-little32 : tie.Need-slice-aggregate-little32
-slice-aggregate-little32 c = search needs
-
-little32-requires : tie.Need-little32-requires
-little32-requires c κs = search needs
-
-cast-n : tie.Need-cast-n
-cast-n c = search needs
 
 returns-2 : tie.Need-returns-2
 returns-2 c = search needs
@@ -31,11 +19,7 @@ slice-relend-prefix-write-filled c = search needs
 
 slice-aggregate-write-filled : tie.Need-slice-aggregate-write-filled
 slice-aggregate-write-filled c =
-    sym
-    (length-take-le
-    (c .before .before .little32 .result)
-    (c .before .before .before .before .before .before .before .before .before .before .before .before .before .before .args .space .now)
-    (c .before .if2 .left))
+    sym (length-take-le (c .before .before .before .before .take-number .result .value) (c .before .before .before .before .before .before .before .before .before .before .before .args .space .now) (c .before .if2 .left))
 
 write-filled-requires : tie.Need-write-filled-requires
 write-filled-requires c κs = search needs
@@ -50,12 +34,8 @@ pub dds-call-spec : {M : Type 1} → statement M
 dds-call-spec =
     tie.close
     (tie.spec
-    slice-aggregate-take
-    take-requires
+    take-number-requires
     returns
-    slice-aggregate-little32
-    little32-requires
-    cast-n
     returns-2
     slice-relend-prefix-write-filled
     slice-aggregate-write-filled

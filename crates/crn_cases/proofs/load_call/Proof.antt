@@ -18,11 +18,8 @@ take-sized-requires c κs = search needs
 returns : tie.Need-returns
 returns c = search needs
 
-slice-aggregate-take : tie.Need-slice-aggregate-take
-slice-aggregate-take c = search needs
-
-take-requires : tie.Need-take-requires
-take-requires c κs = search needs
+take-number-requires : tie.Need-take-number-requires
+take-number-requires c κs = search needs
 
 returns-2 : tie.Need-returns-2
 returns-2 c = search needs
@@ -32,21 +29,9 @@ array-share-prefix-head c = search needs
 
 slice-aggregate-look-and-say : tie.Need-slice-aggregate-look-and-say
 slice-aggregate-look-and-say c =
-    let t = c .before .before .before .before .before .before .before .before in
     sym
-    (length-take-le
-    (t .take-sized .result .size)
-    (t .take-sized .last .0)
-    (omega (arith, t .take-sized .kept .0, t .take-sized .ensures, t .before .before .head-space .ensures)))
-
-slice-aggregate-little32 : tie.Need-slice-aggregate-little32
-slice-aggregate-little32 c = search needs
-
-little32-requires : tie.Need-little32-requires
-little32-requires c κs = search needs
-
-cast-look-and-say : tie.Need-cast-look-and-say
-cast-look-and-say c = search needs
+    (length-take-le (c .before .before .before .before .before .before .before .take-sized .result .size) (c .before .before .before .before .before .before .before .take-sized .last .0)
+    (omega (arith, c .before .before .before .before .before .before .before .take-sized .kept .0, c .before .before .before .before .before .before .before .take-sized .ensures, c .before .before .before .before .before .before .before .before .before .head-space .ensures)))
 
 look-and-say-requires : tie.Need-look-and-say-requires
 look-and-say-requires c κs = search needs
@@ -83,14 +68,10 @@ load-call-spec =
     slice-aggregate-take-sized
     take-sized-requires
     returns
-    slice-aggregate-take
-    take-requires
+    take-number-requires
     returns-2
     array-share-prefix-head
     slice-aggregate-look-and-say
-    slice-aggregate-little32
-    little32-requires
-    cast-look-and-say
     look-and-say-requires
     take-edits-requires
     returns-3

@@ -5,23 +5,11 @@ use borrow.Author.Needs.{needs}
 use Rattle.crn_cases.proofs.take_sized.Statement.{statement}
 use Rattle.crn_cases.proofs.take_sized.Tie as tie
 
-slice-aggregate-take : tie.Need-slice-aggregate-take
-slice-aggregate-take c = search needs
-
-take-requires : tie.Need-take-requires
-take-requires c κs = search needs
+take-number-requires : tie.Need-take-number-requires
+take-number-requires c κs = search needs
 
 returns : tie.Need-returns
 returns c = search needs
-
-slice-aggregate-little32 : tie.Need-slice-aggregate-little32
-slice-aggregate-little32 c = search needs
-
-little32-requires : tie.Need-little32-requires
-little32-requires c κs = search needs
-
-cast-n : tie.Need-cast-n
-cast-n c = search needs
 
 returns-2 : tie.Need-returns-2
 returns-2 c = search needs
@@ -29,16 +17,12 @@ returns-2 c = search needs
 slice-relend-prefix-take : tie.Need-slice-relend-prefix-take
 slice-relend-prefix-take c = search needs
 
-slice-aggregate-take-2 : tie.Need-slice-aggregate-take-2
-slice-aggregate-take-2 c =
-    sym
-    (length-take-le
-    (c .before .before .little32 .result)
-    (c .before .before .before .before .before .before .before .before .before .args .buffer .now)
-    (c .before .if2 .left))
+slice-aggregate-take : tie.Need-slice-aggregate-take
+slice-aggregate-take c =
+    sym (length-take-le (c .before .before .before .before .take-number .result .value) (c .before .before .before .before .before .before .args .buffer .now) (c .before .if2 .left))
 
-take-requires-2 : tie.Need-take-requires-2
-take-requires-2 c κs = search needs
+take-requires : tie.Need-take-requires
+take-requires c κs = search needs
 
 same-length : tie.Need-same-length
 same-length c = search needs
@@ -56,16 +40,12 @@ pub take-sized-spec : {M : Type 1} → statement M
 take-sized-spec =
     tie.close
     (tie.spec
-    slice-aggregate-take
-    take-requires
+    take-number-requires
     returns
-    slice-aggregate-little32
-    little32-requires
-    cast-n
     returns-2
     slice-relend-prefix-take
-    slice-aggregate-take-2
-    take-requires-2
+    slice-aggregate-take
+    take-requires
     same-length
     returns-3
     same-length-2
