@@ -7,12 +7,16 @@ ghost use lib.Dec.{eqb};
 ghost use Rattle.crn_format.specs.Loading.{sameAll, samePart, sameSizes, sameKind, sameParts, sameLevels, sameHeader};
 ghost use Rattle.crn_format.specs.Loading.{agrees as «agreesWith»};
 
+// The fields of two headers are compared in four groups, as the definition has them.
+
+// A palette's place and count.
 fn same_part(a: Part, b: Part) -> bool
     ensures { λ r. ⌜ r ≡ samePart a b ⌝ }
 {
     (a.offset == b.offset) & (a.size == b.size) & (a.count == b.count)
 }
 
+// Every offset that a header holds, also of levels that the file does not have.
 fn same_offsets(a: [u32; 13], b: [u32; 13]) -> bool
     ensures { λ r. ⌜ r ≡ sameAll eqb a b ⌝ }
 {
@@ -25,6 +29,7 @@ fn same_offsets(a: [u32; 13], b: [u32; 13]) -> bool
     all
 }
 
+// The header's and the data's size and CRC.
 fn same_sizes(a: Header, b: Header) -> bool
     ensures { λ r. ⌜ r ≡ sameSizes a b ⌝ }
 {
@@ -34,6 +39,7 @@ fn same_sizes(a: Header, b: Header) -> bool
         & (a.data_crc16 == b.data_crc16)
 }
 
+// What the picture is; and flags, reserved and user data, which have no say.
 fn same_kind(a: Header, b: Header) -> bool
     ensures { λ r. ⌜ r ≡ sameKind a b ⌝ }
 {
@@ -48,6 +54,7 @@ fn same_kind(a: Header, b: Header) -> bool
         & (a.userdata1 == b.userdata1)
 }
 
+// Where the palettes and the tables stand.
 fn same_parts(a: Header, b: Header) -> bool
     ensures { λ r. ⌜ r ≡ sameParts a b ⌝ }
 {
@@ -59,6 +66,7 @@ fn same_parts(a: Header, b: Header) -> bool
         & (a.tables_offset == b.tables_offset)
 }
 
+// Where the levels stand.
 fn same_levels(a: Header, b: Header) -> bool
     ensures { λ r. ⌜ r ≡ sameLevels a b ⌝ }
 {

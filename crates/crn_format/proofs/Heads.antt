@@ -2,14 +2,13 @@
 -- from (document 02, request 2: the crawler reads no more of a file that it does not load).
 use Prim.Native.Nat.{ℕ, zero, suc, _+_, _*_, _≤_, _<_}
 use mathlib.Core.Path.{_≡_, refl, ap, ap₂}
-use mathlib.Core.Bool.{Bool}
 use mathlib.Core.List.{List, _∷_}
 use native.Mathlib.Omega.{arith}
 use lib.ListN.{length, getD, take}
 use lib.Dec.{ltb}
 use lib.Seq.{getD-take}
 use Rattle.crn_format.specs.Choice.{pick}
-use Rattle.crn_format.specs.Header.{signedIn, field, partAt, offsetAt, offsetsFrom, headerOf}
+use Rattle.crn_format.specs.Header.{signedIn, field, partAt, offsetsFrom, headerOf}
 use Rattle.crn_format.specs.Look.{headBytes, lookAt, lookOf}
 
 -- two files whose first bytes are the same

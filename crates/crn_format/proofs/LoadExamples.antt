@@ -1,15 +1,12 @@
 -- Looks and loads, computed: a header of 74 bytes, DXT1, 4 by 4 pixels, whose table segment is empty, so that opening refuses it by 4.
-use Prim.Native.Nat.{ℕ, zero, suc}
-use mathlib.Core.Bool.{true, false}
+use Prim.Native.Nat.{ℕ}
 use mathlib.Core.Path.{_≡_, refl}
 use mathlib.Core.List.{List, [], _∷_, _++_}
-use lib.Dec.{eqb}
 use lib.ListN.{take, replicate}
 use Rattle.crn_format.specs.Header.{signedIn, field, offsetsFrom, headerOf, kindOf, withinLimits, sizesIn}
 use Rattle.crn_format.specs.Look.{lookAt, lookOf}
-use Rattle.crn_format.specs.Opening.{Palettes, Opening, shut, segmentsStand, opening}
+use Rattle.crn_format.specs.Opening.{Palettes, shut, segmentsStand, opening}
 use Rattle.crn_format.specs.Loading.{sameAll, samePart, sameSizes, sameKind, sameParts, sameLevels, sameHeader, agrees, loading}
-use Rattle.crn_format.specs.declared.Header.{Header}
 
 -- its fields are told by the bytes that are not zero: the data size, the width, and the last byte of the user data are handed in
 abbrev small : ℕ → ℕ → ℕ → List ℕ

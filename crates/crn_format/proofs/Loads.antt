@@ -4,13 +4,12 @@ use Prim.Native.Nat.{ℕ}
 use mathlib.Core.Path.{_≡_, refl, sym, ap, ap₂, _∙_}
 use mathlib.Core.Bool.{Bool, true, false, false≢true}
 use mathlib.Core.List.{List, [], _∷_}
-use native.Mathlib.Omega.{arith}
 use lib.Dec.{eqb}
 use borrow.Author.Tests.{eq-eqb, eqb-true}
-use Rattle.crn_format.specs.Choice.{pick, both}
+use Rattle.crn_format.specs.Choice.{both}
 use Rattle.crn_format.specs.Header.{headerOf}
 use Rattle.crn_format.specs.Look.{found, lookOf}
-use Rattle.crn_format.specs.Opening.{Palettes, Opening, shut, afterLook, opening}
+use Rattle.crn_format.specs.Opening.{Palettes, shut, afterLook, opening}
 use Rattle.crn_format.specs.Loading.{sameAll, samePart, sameSizes, sameKind, sameParts, sameLevels, sameHeader, agrees, loading}
 use Rattle.crn_format.specs.declared.Part.{Part}
 use Rattle.crn_format.specs.declared.Header.{Header}
@@ -38,8 +37,9 @@ header-self h = simp (self, part-self, all-self eqb self)
 
 -- ---- and as no other
 
-two : {m n : ℕ} {b : Bool} → both (eqb m n) b ≡ true → (m ≡ n) × (b ≡ true)
-two {m} {n} {b} e = let h = both-hold (eqb m n) b e in (eqb-true m n (h .0), h .1)
+-- a field that is the same, and the rest
+field-and : {m n : ℕ} {rest : Bool} → both (eqb m n) rest ≡ true → (m ≡ n) × (rest ≡ true)
+field-and {m} {n} {rest} e = let h = both-hold (eqb m n) rest e in (eqb-true m n (h .0), h .1)
 
 all-equal : {A : Type 0} (same : A → A → Bool) → ((x y : A) → same x y ≡ true → x ≡ y) → (xs ys : List A) → sameAll same xs ys ≡ true
     → xs ≡ ys
@@ -54,8 +54,8 @@ all-equal same q (x ∷ xs) (y ∷ ys) e =
 part-equal : (a b : Part) → samePart a b ≡ true → a ≡ b
 unfolding samePart
 part-equal a b e =
-    let first = two e in
-    let second = two (first .1) in
+    let first = field-and e in
+    let second = field-and (first .1) in
     let o : a .offset ≡ b .offset = first .0 in
     let s : a .size ≡ b .size = second .0 in
     let c : a .count ≡ b .count = eqb-true _ _ (second .1) in
@@ -68,9 +68,9 @@ module _ (a b : Header) where
       × ((a .«data_size» ≡ b .«data_size») × (a .«data_crc16» ≡ b .«data_crc16»)))
   unfolding sameSizes
   sizes-equal e =
-      let s = two e in
-      let t = two (s .1) in
-      let u = two (t .1) in
+      let s = field-and e in
+      let t = field-and (s .1) in
+      let u = field-and (t .1) in
       (s .0, (t .0, (u .0, eqb-true _ _ (u .1))))
 
   kind-equal : sameKind a b ≡ true
@@ -79,14 +79,14 @@ module _ (a b : Header) where
       × ((a .userdata0 ≡ b .userdata0) × (a .userdata1 ≡ b .userdata1))))))))
   unfolding sameKind
   kind-equal e =
-      let s = two e in
-      let t = two (s .1) in
-      let u = two (t .1) in
-      let v = two (u .1) in
-      let w = two (v .1) in
-      let x = two (w .1) in
-      let y = two (x .1) in
-      let z = two (y .1) in
+      let s = field-and e in
+      let t = field-and (s .1) in
+      let u = field-and (t .1) in
+      let v = field-and (u .1) in
+      let w = field-and (v .1) in
+      let x = field-and (w .1) in
+      let y = field-and (x .1) in
+      let z = field-and (y .1) in
       (s .0, (t .0, (u .0, (v .0, (w .0, (x .0, (y .0, (z .0, eqb-true _ _ (z .1)))))))))
 
   part-and : {p q : Part} {rest : Bool} → both (samePart p q) rest ≡ true → (p ≡ q) × (rest ≡ true)
@@ -102,7 +102,7 @@ module _ (a b : Header) where
       let t = part-and (s .1) in
       let u = part-and (t .1) in
       let v = part-and (u .1) in
-      let w = two (v .1) in
+      let w = field-and (v .1) in
       (s .0, (t .0, (u .0, (v .0, (w .0, eqb-true _ _ (w .1))))))
 
   levels-equal : sameLevels a b ≡ true → a .«level_offsets» ≡ b .«level_offsets»
@@ -171,7 +171,7 @@ module _ (h : Header) (file : List ℕ) where
   pub agrees-found : agrees h file ≡ true → lookOf file ≡ found h
   unfolding agrees
   agrees-found e =
-      let s = two e in
+      let s = field-and e in
       let looked : Looked = lookOf file in
       let same : looked .refusal ≡ 0 = s .0 in
       let header : h ≡ looked .header = header-equal h _ (s .1) in
@@ -200,3 +200,19 @@ module _ (h : Header) (file : List ℕ) where
     pub load-apart : agrees h file ≡ false → loading h file lent ≡ shut 17 0 lent
     unfolding loading
     load-apart e = simp e
+
+-- ---- a look, and then a load by what it gave
+
+module _ (file : List ℕ) where
+  pub look-agrees : lookOf file .refusal ≡ 0 → agrees (lookOf file .header) file ≡ true
+  look-agrees z =
+      let own = look-passes file z .0 in
+      found-agrees (lookOf file .header) file (own ∙ ap found (ap (λ (x : Looked). x .header) (sym own)))
+
+  -- a file that the look refuses is loaded by no record
+  pub no-load : (lent : Palettes) → (lookOf file .refusal ≡ 0 → ⊥) → (h : Header) → loading h file lent ≡ shut 17 0 lent
+  no-load lent refused h = by (agrees h file) refl
+    where
+      by : (b : Bool) → agrees h file ≡ b → loading h file lent ≡ shut 17 0 lent
+      by true e = absurd (refused (ap (λ (x : Looked). x .refusal) (agrees-found h file e)))
+      by false e = load-apart h file lent e

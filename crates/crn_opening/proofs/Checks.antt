@@ -16,7 +16,7 @@ use Rattle.crn_format.specs.declared.Part.{Part}
 use Rattle.crn_format.specs.declared.Header.{Header}
 use Rattle.crn_format.proofs.Choices.{both-hold}
 use Rattle.crn_formats.proofs.Limited.{Limited, limited}
-use Rattle.crn_opening.specs.Loading.{Passed, PlaneFits}
+use Rattle.crn_opening.specs.Streams.{Passed, PlaneFits}
 
 -- a part of a file is no longer than the file
 pub segment-short : (file : List ℕ) (offset size : ℕ) → offset + size ≤ length file → length (segment file offset size) ≤ length file

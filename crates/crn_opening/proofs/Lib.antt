@@ -1,5 +1,5 @@
 pub mod Refusals
 pub mod SentTables
 pub mod Checks
-pub mod Loading
+pub mod Streams
 pub mod Opens

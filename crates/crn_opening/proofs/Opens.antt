@@ -23,9 +23,9 @@ use Rattle.crn_opening.specs.declared.opening.Opened.{Opened}
 use Rattle.crn_opening.specs.declared.opening.OpenedHeader.{OpenedHeader}
 use Rattle.crn_opening.specs.declared.tables_segment.Sent.{Sent}
 use Rattle.crn_opening.specs.SentTables.{AllZero, Told, told, sentOf}
-use Rattle.crn_opening.specs.Loading.{Seen, PalettesEnd}
+use Rattle.crn_opening.specs.Streams.{Seen, PalettesEnd}
 use Rattle.crn_opening.specs.Opens.{refusedHeader, openedBy, closed, toOpened, buffersOf, Opens, Loads}
-use Rattle.crn_opening.proofs.Loading.{cleared, on, off, tables-stop, tables-read}
+use Rattle.crn_opening.proofs.Streams.{cleared, on, off, tables-stop, tables-read}
 
 -- ---- an opening that is known
 

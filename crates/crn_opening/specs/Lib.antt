@@ -1,3 +1,3 @@
 pub mod SentTables
-pub mod Loading
+pub mod Streams
 pub mod Opens

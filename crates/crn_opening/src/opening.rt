@@ -17,7 +17,7 @@ ghost use mathlib.Core.Path.{_≡_};
 ghost use Rattle.crn_format.specs.Opening.{streams, afterLook, opening as «openingOf», zeroed};
 ghost use Rattle.crn_formats.specs.Lent.{lentOf};
 ghost use Rattle.crn_opening.specs.SentTables.{AllZero};
-ghost use Rattle.crn_opening.specs.Loading.{Seen, Passed};
+ghost use Rattle.crn_opening.specs.Streams.{Seen, Passed};
 ghost use Rattle.crn_opening.specs.Opens.{refusedHeader, openedBy, arraysOf, Opens, Loads};
 
 // Refusal 0 with the opened file; else the refusal, the bit that it names (0 before the streams), and the empty record.

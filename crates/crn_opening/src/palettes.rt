@@ -13,7 +13,7 @@ ghost use lib.ListN.{length};
 ghost use Rattle.crn_format.specs.Palettes.{colorEndpoints, colorSelectors, alphaEndpoints, alphaSelectors};
 ghost use Rattle.crn_format.specs.Opening.{segment as «segmentOf»};
 ghost use Rattle.crn_formats.specs.Lent.{lentOf};
-ghost use Rattle.crn_opening.specs.Loading.{Passed, PlaneFits, PlaneEnds, PalettesEnd};
+ghost use Rattle.crn_opening.specs.Streams.{Passed, PlaneFits, PlaneEnds, PalettesEnd};
 
 // The bytes of a part of the file.
 pub fn segment(file: &[u8], offset: u32, size: u32) -> &[u8]

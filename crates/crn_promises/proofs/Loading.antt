@@ -1,30 +1,27 @@
 -- What the definition of a load promises, of a call that answers and leaves what it says. Where record and file agree, the load is the
 -- opening of that file, and what is promised of an opening holds of it; where they disagree it is refused by 17.
-use Prim.Native.Nat.{ℕ, _≤_}
+use Prim.Native.Nat.{ℕ}
 use mathlib.Core.Bool.{Bool, true, false, false≢true}
-use mathlib.Core.Logic.{_⊎_, inl, inr, _↔_}
+use mathlib.Core.Logic.{_⊎_, inl, inr}
 use mathlib.Core.List.{List}
 use mathlib.Core.Path.{_≡_, refl, sym, ap, _∙_}
 use native.Mathlib.Omega.{arith}
-use lib.ListN.{length, take}
 use Rattle.crn_format.specs.Header.{headerOf}
-use Rattle.crn_format.specs.Look.{found, headBytes, lookAt, lookOf}
+use Rattle.crn_format.specs.Look.{found, lookAt, lookOf}
 use Rattle.crn_format.specs.Opening.{Opening, opened, shut, afterLook, opening}
 use Rattle.crn_format.specs.Loading.{agrees, loading}
 use Rattle.crn_format.specs.declared.Looked.{Looked}
-use Rattle.crn_format.specs.declared.Record.{Record}
-use Rattle.crn_format.proofs.LookAndOpen.{look-passes, look-refuses, look-goes-on}
-use Rattle.crn_format.proofs.Loads.{agrees-found, found-agrees, agrees-own, load-goes-on, load-apart}
+use Rattle.crn_format.proofs.LookAndOpen.{look-refuses, look-goes-on}
+use Rattle.crn_format.proofs.Loads.{agrees-found, found-agrees, agrees-own, load-goes-on, load-apart, look-agrees}
 use Rattle.crn_format.proofs.Heads.{look-at-head}
 use Rattle.crn_opening.specs.Opens.{openedBy, closed, toOpened, buffersOf, Opens, Loads}
 use Rattle.crn_opening.specs.declared.opening.Opened.{Opened}
 use Rattle.crn_opening.specs.declared.opening.OpenedHeader.{OpenedHeader}
 use Rattle.crn_laws_total.specs.Refusals.{among, afterLookRefusals}
-use Rattle.crn_laws_total.specs.Ends.{Open}
 use Rattle.crn_laws_total.proofs.Numbers.{not-zero}
 use Rattle.crn_laws_total.proofs.Opening.{Late, after-look-late}
 use Rattle.crn_promises.specs.Calls.{OpenCall, LoadCall}
-use Rattle.crn_promises.specs.Promises.{LookTotal, HeadTotal, OpenSame, Words, LoadSame, LoadTotal, LoadExact, OneAfterTheOther}
+use Rattle.crn_promises.specs.Promises.{HeadTotal, OpenSame, LoadSame, LoadTotal, LoadExact}
 use Rattle.crn_promises.specs.Promises.{TwoCalls, LoadReady, LoadTold}
 use Rattle.crn_promises.proofs.Look.{look-total}
 use Rattle.crn_promises.proofs.Opening as opens
@@ -163,11 +160,7 @@ module _ (c : LoadCall) (s : LoadSame c) where
   two-calls file a is o same header mine his lent =
       record {
         goes-on = λ z.
-            let f : lookOf (c .file) ≡ found (c .header) =
-            ap lookOf mine ∙ look-passes file (sym (ap (λ (x : Looked). x .refusal) is) ∙ z) .0
-            ∙ ap found (sym (header ∙ ap (λ (x : Looked). x .header) (is ∙ look-passes file (sym (ap (λ (x : Looked). x .refusal) is)
-            ∙ z) .0))) in
-            let own = as-opening (found-agrees (c .header) (c .file) f) in
+            let own = as-opening (rw (header, is, mine) (look-agrees file (sym (ap (λ (x : Looked). x .refusal) is) ∙ z))) in
             let its : opening (c .file) (c .lent) ≡ opening (o .file) (o .lent) = rw (mine, his, lent) in
             (own .answer ∙ ap toOpened its ∙ sym (same .answer), own .leaves ∙ ap buffersOf its ∙ sym (same .leaves));
         refused = λ f.

@@ -10,28 +10,27 @@ use Rattle.crn_format.specs.Header.{headerOf, withinLimits, sizesHold, signed}
 use Rattle.crn_format.specs.Look.{found, no, lookAt, lookOf}
 use Rattle.crn_format.specs.declared.Header.{Header}
 use Rattle.crn_format.specs.declared.Looked.{Looked}
-use Rattle.crn_format.proofs.LookAndOpen.{look-refuses}
+use Rattle.crn_format.proofs.LookAndOpen.{look-passes, look-refuses}
 use Rattle.crn_laws_total.specs.Refusals.{among}
 use Rattle.crn_promises.specs.Promises.{LookTotal}
 
-record Numbered (h : Header) (a : Looked) : Type 0 where
-  found-it : a .refusal ≡ 0 → a ≡ found h
+record Numbered (a : Looked) : Type 0 where
   number : (a .refusal ≡ 0) ⊎ (among (a .refusal) (1 ∷ 2 ∷ 3 ∷ []) ≡ true)
   other : (a .refusal ≡ 0 → ⊥) → a ≡ no (a .refusal)
 
-three : (h : Header) (a b c : Bool) → Numbered h (pick a (pick b (pick c (found h) (no 3)) (no 2)) (no 1))
-three h true true true = record { found-it = λ _. refl; number = inl refl; other = λ f. absurd (f refl) }
-three h true true false = record { found-it = λ z. absurd (omega arith); number = inr refl; other = λ _. refl }
-three h true false c = record { found-it = λ z. absurd (omega arith); number = inr refl; other = λ _. refl }
-three h false b c = record { found-it = λ z. absurd (omega arith); number = inr refl; other = λ _. refl }
+three : (h : Header) (a b c : Bool) → Numbered (pick a (pick b (pick c (found h) (no 3)) (no 2)) (no 1))
+three h true true true = record { number = inl refl; other = λ f. absurd (f refl) }
+three h true true false = record { number = inr refl; other = λ _. refl }
+three h true false c = record { number = inr refl; other = λ _. refl }
+three h false b c = record { number = inr refl; other = λ _. refl }
 
 pub look-total : (file : List ℕ) (a : Looked) → a ≡ lookOf file → LookTotal file a
 look-total file a is =
     rw is (record {
       number = n .number;
-      accepted = n .found-it;
+      accepted = λ z. look-passes file z .0;
       refused = λ f. (n .other f, (λ lent. look-refuses file lent (omega arith)));
     })
   where
-    n : Numbered (headerOf file) (lookOf file)
+    n : Numbered (lookOf file)
     n = unfold lookAt in three (headerOf file) (signed file) (withinLimits (headerOf file)) (sizesHold file (headerOf file))

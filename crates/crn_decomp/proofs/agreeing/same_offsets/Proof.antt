@@ -1,11 +1,10 @@
 -- The offsets of two headers. Invariant: what has been compared, and the rest, is the whole.
-use Prim.Native.Nat.{ℕ, _-_, _+_, _≤_}
+use Prim.Native.Nat.{_-_, _≤_}
 use mathlib.Core.Path.{_≡_, refl, sym, _∙_}
 use native.Mathlib.Omega.{arith}
 use lib.Dec.{eqb}
 use lib.ListN.{length, drop}
 use borrow.Author.Needs.{needs}
-use borrow.Author.Tests.{eq-eqb}
 use Rattle.crn_format.specs.Choice.{both}
 use Rattle.crn_format.specs.Limits.{maxLevels}
 use Rattle.crn_format.specs.Loading.{sameAll}

@@ -1,5 +1,5 @@
 -- All four buffers zero.
-use Rattle.crn_opening.proofs.Loading.{all-zero}
+use Rattle.crn_opening.proofs.Streams.{all-zero}
 use borrow.Author.Needs.{needs}
 use Rattle.crn_opening.proofs.opening.clear.Statement.{statement}
 use Rattle.crn_opening.proofs.opening.clear.Tie as tie

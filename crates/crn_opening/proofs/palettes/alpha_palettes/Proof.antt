@@ -1,7 +1,7 @@
 -- The two palettes of the alpha plane.
 use native.Mathlib.Omega.{arith}
 use Rattle.crn_opening.proofs.Refusals.{alpha-endpoints-numbered, alpha-selectors-numbered}
-use Rattle.crn_opening.proofs.Loading.{plane-absent, plane-stops, plane-goes-on}
+use Rattle.crn_opening.proofs.Streams.{plane-absent, plane-stops, plane-goes-on}
 use borrow.Author.Needs.{needs}
 use Rattle.crn_opening.proofs.palettes.alpha_palettes.Statement.{statement}
 use Rattle.crn_opening.proofs.palettes.alpha_palettes.Tie as tie

@@ -1,6 +1,6 @@
 -- The four palettes: the colour plane, then the alpha plane.
 use Rattle.crn_opening.proofs.Checks.{color-fits, alpha-fits}
-use Rattle.crn_opening.proofs.Loading.{color-stops, color-goes-on}
+use Rattle.crn_opening.proofs.Streams.{color-stops, color-goes-on}
 use borrow.Author.Needs.{needs}
 use Rattle.crn_opening.proofs.palettes.read_palettes.Statement.{statement}
 use Rattle.crn_opening.proofs.palettes.read_palettes.Tie as tie

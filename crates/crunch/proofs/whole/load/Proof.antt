@@ -19,9 +19,8 @@ same-length-4 c = search needs
 
 returns : tie.Need-returns
 returns c =
-    rw (c .together .ensures)
-    (loads-whole _ _ _ _ _ _ _ (c .before .before .before .before .before .before .before .before .before .load-into .ensures)
-    (record { first = refl; colorE = refl; colorS = refl; alphaE = refl; alphaS = refl }))
+    loads-whole _ _ _ _ _ _ _ (c .before .before .before .before .before .before .before .before .before .before .load-into .ensures)
+    (record { first = refl; colorE = refl; colorS = refl; alphaE = refl; alphaS = refl })
 
 pub load-spec : {M : Type 1} → statement M
-load-spec = tie.close (tie.spec (λ _ _. tt) (λ _ _. tt) same-length same-length-2 same-length-3 same-length-4 returns)
+load-spec = tie.close (tie.spec (λ _ _. tt) same-length same-length-2 same-length-3 same-length-4 returns)

@@ -16,7 +16,7 @@ use Rattle.crn_formats.specs.Lent.{lentOf}
 use Rattle.crn_palettes.specs.Filling.{answered, held, Fills}
 use Rattle.crn_palettes.specs.declared.Ended.{Ended}
 use Rattle.crn_opening.specs.SentTables.{Told, sentOf}
-use Rattle.crn_opening.specs.Loading.{settled, palettesIn, PlaneEnds, PalettesEnd}
+use Rattle.crn_opening.specs.Streams.{settled, palettesIn, PlaneEnds, PalettesEnd}
 use Rattle.crn_opening.proofs.Refusals.{Numbered, Some, run-some, tables-numbered}
 
 -- all four buffers are zero
