@@ -1,9 +1,10 @@
-// The constant tables of a CRN file (document 01, Codes, Palettes and Chunks), each read by a function.
+// What all CRN files have in common: the constant tables (document 01, Codes, Palettes and Chunks), each read by a function, and the order
+// in which a block writes selectors.
 ghost use mathlib.Core.Path.{_≡_};
 ghost use Prim.Native.Nat.{_<_, _≤_};
 ghost use lib.ListN.{getD};
 ghost use Rattle.crn_format.specs.Level.{tileCounts};
-ghost use Rattle.crn_format.specs.Palettes.{colorFromLinear, alphaFromLinear};
+ghost use Rattle.crn_format.specs.Palettes.{fromLinear};
 ghost use Rattle.crn_format.specs.Tables.{lengthOrder};
 ghost use Rattle.crn_consts.specs.Entries.{Entry, Pair};
 ghost use Rattle.crn_consts.specs.Tiles.{Tiles};
@@ -48,18 +49,18 @@ pub fn tiles(encoding: u32) -> u32
     upper + 16 * lower
 }
 
-// How a block writes a colour selector's value.
-pub fn color_from_linear(value: u32) -> u32
-    ensures { λ r. ⌜ (r ≡ getD colorFromLinear value 0) × (r < 4) ⌝ }
+// How a block writes a selector's value. The value goes from 0, the block's first end, to top, its second; a block numbers the two ends
+// first, then what lies between. So zero stays, the top value becomes 1, anything between moves up by one. No value is above the top.
+pub fn from_linear(top: u32, value: u32) -> u32
+    ensures { λ r. ⌜ r ≡ fromLinear top value ⌝ }
 {
-    entry(&tables::DXT1_FROM_LINEAR, value as usize)
-}
-
-// How a block writes an alpha selector's value.
-pub fn alpha_from_linear(value: u32) -> u32
-    ensures { λ r. ⌜ (r ≡ getD alphaFromLinear value 0) × (r < 8) ⌝ }
-{
-    entry(&tables::DXT5_FROM_LINEAR, value as usize)
+    if value == 0 {
+        return 0;
+    }
+    if value < top {
+        return value + 1;
+    }
+    1
 }
 
 // The i-th of the 21 length symbols, in the order in which their own lengths are sent.

@@ -10,11 +10,6 @@ pub const CHUNK_ENCODING_UPPER_TILES: u32 = 0x41490400;
 
 pub const CHUNK_ENCODING_LOWER_TILES: u32 = 0xe2809450;
 
-// How a block writes a selector value, of a colour and of an alpha.
-pub const DXT1_FROM_LINEAR: [u8; 4] = [0, 2, 3, 1];
-
-pub const DXT5_FROM_LINEAR: [u8; 8] = [0, 2, 3, 4, 5, 6, 7, 1];
-
 // The symbols of the code of lengths, in the order in which their own lengths are sent.
 pub const MOST_PROBABLE_CODELENGTH_CODES: [u8; 21] = [
     17,

@@ -11,5 +11,6 @@ pub mod Writing
 pub mod LookAndOpen
 pub mod Loads
 pub mod Heads
+pub mod SelectorOrder
 pub mod Examples
 pub mod LoadExamples

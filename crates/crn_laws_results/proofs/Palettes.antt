@@ -1,16 +1,21 @@
--- The palettes: the answer and the lent buffer are fixed; so is the table of the alpha selectors' deltas.
+-- The palettes: the answer and the lent buffer are fixed; so is the table of the alpha selectors' deltas. Selectors are what the lists of
+-- the published header give, though they are written by a rule.
 use Prim.Native.Nat.{ℕ, zero, suc, _+_, _*_, _/_, _%_}
 use mathlib.Core.Path.{_≡_, refl, sym, ap, _∙_}
-use mathlib.Core.List.{List}
+use mathlib.Core.List.{List, [], _∷_}
 use native.Mathlib.Omega.{arith}
 use lib.ListN.{length, getD}
 use lib.Seq.{ext-getD, length-take-le}
-use denote.Ref.{now}
+use contract.Lifetimes.{Lfts}
+use denote.Ref.{RefT, now}
 use Rattle.crn_consts.specs.declared.Deltas.{Deltas}
 use Rattle.crn_consts.specs.AlphaDeltas.{AllDeltas, alphaDeltas}
 use Rattle.crn_consts.proofs.alpha_delta_pairs.Reads as alpha-delta-pairs
-use Rattle.crn_format.specs.Reading.{Step, got, refused}
+use Rattle.crn_format.specs.Reading.{Step, got, refused, Reading, run, fromBits, start}
+use Rattle.crn_format.specs.Palettes.{threeWords, selectors}
+use Rattle.crn_format.proofs.SelectorOrder.{colorList, alphaList, listed, color-selectors-listed, alpha-selectors-listed}
 use Rattle.crn_symbol_codec.specs.declared.Cursor.{Cursor}
+use Rattle.crn_palettes.specs.Filling.{answered, held, Fills}
 use Rattle.crn_palettes.specs.Reaching.{heldIn, Lengths}
 use Rattle.crn_palettes.specs.declared.Ended.{Ended}
 use Rattle.crn_palettes.specs.declared.reading.Sent.{Sent}
@@ -36,6 +41,28 @@ alpha-endpoints-settled _ _ _ _ _ _ _ p q = alike₂ (p .answer) (q .answer) (p 
 
 pub alpha-selectors-settled : Settled {X = Ended × List ℕ} alpha-selectors.Post (λ a r (seg, (count, (out, _))). (r, now out))
 alpha-selectors-settled _ _ _ _ _ _ _ p q = alike₂ (p .answer) (q .answer) (p .holds) (q .holds)
+
+-- ---- selectors by the lists
+
+-- a palette that another reading gives as well
+as-well : {seg before after : List ℕ} {r : Ended} (m n : Reading (List ℕ)) → run (fromBits seg) m start ≡ run (fromBits seg) n start
+    → Fills seg m before after r → Fills seg n before after r
+as-well {before = before} m n e p = record { answer = p .answer ∙ ap answered e; holds = p .holds ∙ ap (held before) e }
+
+-- what reading a palette takes: a segment, a count of entries, a lent buffer
+abbrev Lent : Type 0
+Lent = RefT (List ℕ) × (ℕ × (RefT (List ℕ) × Unit {0}))
+
+-- every call that ends as this contract says answers and leaves what the reading gives
+abbrev Filling : (Lfts 2 → Lent → Ended → Lent → Type 0) → (ℕ → Reading (List ℕ)) → Type 0
+Filling post m =
+    (κ : Lfts 2) (a : Lent) (r : Ended) (e : Lent) → post κ a r e → Fills (now (a .0)) (m (a .1 .0)) (now (a .1 .1 .0)) (now (e .1 .1 .0)) r
+
+pub color-selectors-by-list : Filling color-selectors.Post (selectors 3 (λ vs. listed colorList 2 vs 16 ∷ []))
+color-selectors-by-list κ (seg, (count, _)) r e p = as-well _ _ (color-selectors-listed (fromBits (now seg)) count start) p
+
+pub alpha-selectors-by-list : Filling alpha-selectors.Post (selectors 7 (λ vs. threeWords (listed alphaList 3 vs 16)))
+alpha-selectors-by-list κ (seg, (count, _)) r e p = as-well _ _ (alpha-selectors-listed (fromBits (now seg)) count start) p
 
 -- ---- a palette's code table: how receiving it ends, and all of the lent array
 

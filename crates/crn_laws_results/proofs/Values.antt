@@ -16,8 +16,7 @@ use Rattle.crn_bytes.proofs.last_bytes.Reads as last-bytes
 use Rattle.crn_consts.proofs.tile_count.Reads as tile-count
 use Rattle.crn_consts.specs.Tiles.{tileIn}
 use Rattle.crn_consts.proofs.tiles.Reads as tiles
-use Rattle.crn_consts.proofs.color_from_linear.Reads as color-from-linear
-use Rattle.crn_consts.proofs.alpha_from_linear.Reads as alpha-from-linear
+use Rattle.crn_consts.proofs.from_linear.Reads as from-linear
 use Rattle.crn_consts.proofs.length_symbol.Reads as length-symbol
 use Rattle.crn_consts.proofs.alpha_deltas.Reads as alpha-deltas
 use Rattle.crn_formats.proofs.between.Reads as between
@@ -124,11 +123,8 @@ tiles-settled _ _ _ r s _ _ p q =
     pair : (k : ℕ) → k < 4 → tileIn r k ≡ tileIn s k
     pair k four = alike (p .each k four) (q .each k four)
 
-pub color-from-linear-settled : Settled color-from-linear.Post theAnswer
-color-from-linear-settled _ _ _ _ _ _ _ p q = alike (p .0) (q .0)
-
-pub alpha-from-linear-settled : Settled alpha-from-linear.Post theAnswer
-alpha-from-linear-settled _ _ _ _ _ _ _ p q = alike (p .0) (q .0)
+pub from-linear-settled : Settled from-linear.Post theAnswer
+from-linear-settled _ _ _ _ _ _ _ p q = alike p q
 
 pub length-symbol-settled : Settled length-symbol.Post theAnswer
 length-symbol-settled _ _ _ _ _ _ _ p q = alike (p .0) (q .0)

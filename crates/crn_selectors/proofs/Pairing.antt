@@ -8,8 +8,9 @@ use native.Mathlib.Decide.{ℕ-discrete, decLt}
 use native.Mathlib.Nat.{add-mod-mod}
 use lib.ListN.{length, getD, set, replicate, length-set, length-replicate}
 use lib.Seq.{getD-set-same, getD-set-other, set-out}
-use Rattle.crn_format.specs.Palettes.{deltaCount, raised, pairMoved, colorFromLinear, alphaFromLinear}
-use Rattle.crn_selectors.specs.Selectors.{topOf, pairsOf, bitsOf, linearOf, Halves, valuesOf, Pairs, PairDelta, PairMoved, writtenPair}
+use Rattle.crn_format.specs.Palettes.{deltaCount, raised, pairMoved, fromLinear}
+use Rattle.crn_format.proofs.SelectorOrder.{written-within, zeros-at}
+use Rattle.crn_selectors.specs.Selectors.{topOf, pairsOf, bitsOf, Halves, valuesOf, Pairs, PairDelta, PairMoved, writtenPair}
 use Rattle.crn_selectors.proofs.Packing.{Packed, packed-kept, two-fit, packed-two}
 
 -- ---- a list by its indices
@@ -86,11 +87,6 @@ halves-small true h = omega arith
 halves-small false h = omega arith
 
 -- all pairs are zero at first
-zeros-at : (n j : ℕ) → _≡_ {A = ℕ} (getD (replicate n 0) j 0) 0
-zeros-at zero j = refl
-zeros-at (suc n) zero = refl
-zeros-at (suc n) (suc j) = zeros-at n j
-
 halves-none : (alpha : Bool) → Halves alpha 0
 halves-none true = record { first = omega arith; second = omega arith }
 halves-none false = record { first = omega arith; second = omega arith }
@@ -98,22 +94,10 @@ halves-none false = record { first = omega arith; second = omega arith }
 pub pairs-zero : (alpha : Bool) → Pairs alpha (replicate 8 0)
 pairs-zero alpha = record { long = length-replicate {A = ℕ} 8 0; halves = λ j. rw (zeros-at 8 j) (halves-none alpha) }
 
-pub linear-small : (alpha : Bool) (v : ℕ) → getD (linearOf alpha) v 0 < 2 ^ bitsOf alpha
-unfolding colorFromLinear alphaFromLinear
-linear-small true zero = omega arith
-linear-small true (suc zero) = omega arith
-linear-small true (suc (suc zero)) = omega arith
-linear-small true (suc (suc (suc zero))) = omega arith
-linear-small true (suc (suc (suc (suc zero)))) = omega arith
-linear-small true (suc (suc (suc (suc (suc zero))))) = omega arith
-linear-small true (suc (suc (suc (suc (suc (suc zero)))))) = omega arith
-linear-small true (suc (suc (suc (suc (suc (suc (suc zero))))))) = omega arith
-linear-small true (suc (suc (suc (suc (suc (suc (suc (suc v)))))))) = omega arith
-linear-small false zero = omega arith
-linear-small false (suc zero) = omega arith
-linear-small false (suc (suc zero)) = omega arith
-linear-small false (suc (suc (suc zero))) = omega arith
-linear-small false (suc (suc (suc (suc v)))) = omega arith
+-- a value as it is written fits its bits
+pub written-small : (alpha : Bool) (v : ℕ) → fromLinear (topOf alpha) v < 2 ^ bitsOf alpha
+written-small true v = omega (arith, written-within 7 v (omega arith))
+written-small false v = omega (arith, written-within 3 v (omega arith))
 
 -- ---- a pair that is moved
 
@@ -169,21 +153,29 @@ few-bits true = omega arith
 few-bits false = omega arith
 
 -- r, which is written n, takes the place of the j-th pair
-module _ (alpha : Bool) (ps : List ℕ) (j r : ℕ) {n word shift : ℕ} (x : Packed (linearOf alpha) (bitsOf alpha) (valuesOf ps) word (2 * j) shift) (h : j < 8) (l : j < length ps) (e : n ≡ writtenPair alpha r) where
-  before : Packed (linearOf alpha) (bitsOf alpha) (valuesOf (set ps j r)) word (2 * j) shift
+module _ (alpha : Bool) (ps : List ℕ) (j r : ℕ) {n word shift : ℕ}
+    (x : Packed (topOf alpha) (bitsOf alpha) (valuesOf ps) word (2 * j) shift) (h : j < 8) (l : j < length ps) (e : n ≡ writtenPair alpha r) where
+  before : Packed (topOf alpha) (bitsOf alpha) (valuesOf (set ps j r)) word (2 * j) shift
   before = rw (values-set ps j r) (packed-kept (packed-kept x (2 * j) (r % 16) (omega arith)) (2 * j + 1) (r / 16) (omega arith))
 
-  first-written : getD (linearOf alpha) (r % 16) 0 ≡ getD (linearOf alpha) (getD (valuesOf (set ps j r)) (2 * j) 0) 0
+  first-written : fromLinear (topOf alpha) (r % 16) ≡ fromLinear (topOf alpha) (getD (valuesOf (set ps j r)) (2 * j) 0)
   first-written = rw (values-first (set ps j r) j, getD-set-same ps j r 0 l)
 
-  second-written : getD (linearOf alpha) (r / 16) 0 ≡ getD (linearOf alpha) (getD (valuesOf (set ps j r)) (2 * j + 1) 0) 0
+  second-written : fromLinear (topOf alpha) (r / 16) ≡ fromLinear (topOf alpha) (getD (valuesOf (set ps j r)) (2 * j + 1) 0)
   second-written = rw (values-second (set ps j r) j, getD-set-same ps j r 0 l)
 
-  pub pair-fits : word + n * 2 ^ shift % 2 ^ 64 < 2 ^ 64
-  pair-fits = rw e (two-fit _ _ before (few-bits alpha) (omega arith) (linear-small alpha (r % 16)) (linear-small alpha (r / 16)) first-written second-written)
+  first-small : fromLinear (topOf alpha) (r % 16) < 2 ^ bitsOf alpha
+  first-small = written-small alpha (r % 16)
 
-  pub pair-packed : {width : ℕ} → width ≡ 2 * bitsOf alpha → Packed (linearOf alpha) (bitsOf alpha) (valuesOf (set ps j r)) (word + n * 2 ^ shift % 2 ^ 64) (2 * (j + 1)) (shift + width)
+  second-small : fromLinear (topOf alpha) (r / 16) < 2 ^ bitsOf alpha
+  second-small = written-small alpha (r / 16)
+
+  pub pair-fits : word + n * 2 ^ shift % 2 ^ 64 < 2 ^ 64
+  pair-fits = rw e (two-fit _ _ before (few-bits alpha) (omega arith) first-small second-small first-written second-written)
+
+  pub pair-packed : {width : ℕ} → width ≡ 2 * bitsOf alpha
+      → Packed (topOf alpha) (bitsOf alpha) (valuesOf (set ps j r)) (word + n * 2 ^ shift % 2 ^ 64) (2 * (j + 1)) (shift + width)
   pair-packed {width} f =
       let k : 2 * (j + 1) ≡ 2 * j + 1 + 1 = omega arith in
       let s : shift + width ≡ shift + bitsOf alpha + bitsOf alpha = omega (arith, f) in
-      rw (e, k, s) (packed-two _ _ before (few-bits alpha) (omega arith) (linear-small alpha (r % 16)) (linear-small alpha (r / 16)) first-written second-written)
+      rw (e, k, s) (packed-two _ _ before (few-bits alpha) (omega arith) first-small second-small first-written second-written)

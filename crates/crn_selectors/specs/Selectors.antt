@@ -6,7 +6,7 @@ use mathlib.Core.List.{List, [], _∷_}
 use lib.ListN.{length, getD, replicate}
 use Rattle.crn_format.specs.Choice.{pick}
 use Rattle.crn_format.specs.Reading.{Reading}
-use Rattle.crn_format.specs.Palettes.{entries, changed, packed, deltaCount, raised, colorFromLinear, alphaFromLinear, colorSelectorWords, alphaSelectorWords}
+use Rattle.crn_format.specs.Palettes.{entries, changed, packed, deltaCount, raised, fromLinear, colorSelectorWords, alphaSelectorWords}
 use Rattle.crn_consts.specs.declared.Deltas.{Deltas}
 use Rattle.crn_consts.specs.AlphaDeltas.{AllDeltas}
 use Rattle.crn_symbol_codec.specs.Cursors.{Holds}
@@ -23,12 +23,9 @@ topOf alpha = pick alpha 7 3
 abbrev pub pairsOf : Bool → ℕ
 pairsOf alpha = deltaCount (topOf alpha) * deltaCount (topOf alpha)
 
--- how many bits a value takes as it is written, and how it is written
+-- how many bits a value takes as it is written
 abbrev pub bitsOf : Bool → ℕ
 bitsOf alpha = pick alpha 3 2
-
-abbrev pub linearOf : Bool → List ℕ
-linearOf alpha = pick alpha alphaFromLinear colorFromLinear
 
 -- what is kept for the symbols: for alpha the constant table of all pairs; colour's deltas are computed
 abbrev pub Kept : Bool → List ℕ → Type 0
@@ -69,7 +66,7 @@ pub record PairMoved (alpha : Bool) (pair delta r : ℕ) : Type 0 where
 
 -- a pair as a block writes it, the first value lowest
 abbrev pub writtenPair : Bool → ℕ → ℕ
-writtenPair alpha pair = getD (linearOf alpha) (pair % 16) 0 + 2 ^ bitsOf alpha * getD (linearOf alpha) (pair / 16) 0
+writtenPair alpha pair = fromLinear (topOf alpha) (pair % 16) + 2 ^ bitsOf alpha * fromLinear (topOf alpha) (pair / 16)
 
 -- the tables of both, by symbol and by pair
 abbrev pub DeltaTable : Bool → List ℕ → Type 0
@@ -84,12 +81,8 @@ pub record NextWord (alpha : Bool) (lookup sorted seg : List ℕ) (c : Cursor) (
       → Reaches seg (changed (topOf alpha) t 8 0 (valuesOf before)) c b (valuesOf after) (endedAt (r .refusal) (cursorAt (r .bits) (r .have) (r .next)))
   pub holds : Holds seg (cursorAt (r .bits) (r .have) (r .next))
   pub pairs : Pairs alpha after
-  pub same : r .refusal ≡ 0 → r .word ≡ packed (linearOf alpha) (bitsOf alpha) (valuesOf after) 16
+  pub same : r .refusal ≡ 0 → r .word ≡ packed (topOf alpha) (bitsOf alpha) (valuesOf after) 16
   pub small : r .refusal ≡ 0 → r .word < 2 ^ (bitsOf alpha * 16)
-
--- "48 bits in three words, low word first"
-abbrev pub threeWords : ℕ → List ℕ
-threeWords p = p % 2 ^ 16 ∷ p / 2 ^ 16 % 2 ^ 16 ∷ p / 2 ^ 32 ∷ []
 
 -- the entries of a palette whose code is known
 abbrev pub selectorEntries : Bool → (List ℕ → List ℕ) → List ℕ → ℕ → Reading (List ℕ)

@@ -3,15 +3,16 @@
 ghost use mathlib.Core.Path.{_≡_};
 ghost use mathlib.Core.List.{List};
 ghost use Prim.Native.Nat.{ℕ, _+_, _*_, _^_, _<_, _≤_};
-ghost use lib.ListN.{length, getD};
+ghost use lib.ListN.{length};
 ghost use lib.Seq.{sets};
 ghost use Rattle.crn_format.specs.Limits.{tooLong, maxEntries};
-ghost use Rattle.crn_format.specs.Palettes.{colorSelectors, alphaSelectors};
+ghost use Rattle.crn_format.specs.Palettes.{fromLinear, threeWords, colorSelectors, alphaSelectors};
 ghost use Rattle.crn_symbol_codec.specs.Cursors.{Holds};
 ghost use Rattle.crn_symbol_codec.specs.Decoders.{Decodes, SomeCode};
 ghost use Rattle.crn_palettes.specs.Filling.{Fills, FillsFrom};
 ghost use Rattle.crn_palettes.specs.Reaching.{cursorAt};
-ghost use Rattle.crn_selectors.specs.Selectors.{pairsOf, bitsOf, linearOf, Kept, DeltasOf, Halves, PairDelta, PairMoved, writtenPair, DeltaTable, WordTable, Pairs, NextWord, threeWords, colorEntries, alphaEntries};
+ghost use Rattle.crn_selectors.specs.Selectors.{topOf, pairsOf, bitsOf, Kept, DeltasOf, Halves, PairDelta, PairMoved, writtenPair};
+ghost use Rattle.crn_selectors.specs.Selectors.{DeltaTable, WordTable, Pairs, NextWord, colorEntries, alphaEntries};
 use crn_consts::Deltas;
 use crn_palettes::Ended;
 use crn_palettes::Sent;
@@ -91,12 +92,12 @@ fn moved(alpha: bool, pair: u8, delta: u8) -> u8
 
 // A value as a block writes it.
 fn written(alpha: bool, value: u32) -> u32
-    ensures { λ r. ⌜ (r ≡ getD (linearOf alpha) value 0) × (r < 2 ^ bitsOf alpha) ⌝ }
+    ensures { λ r. ⌜ (r ≡ fromLinear (topOf alpha) value) × (r < 2 ^ bitsOf alpha) ⌝ }
 {
     if alpha {
-        return crn_consts::alpha_from_linear(value);
+        return crn_consts::from_linear(7, value);
     }
-    crn_consts::color_from_linear(value)
+    crn_consts::from_linear(3, value)
 }
 
 // A pair as a block writes it, the first value lowest.

@@ -5,13 +5,13 @@ use mathlib.Core.Bool.{true}
 use mathlib.Core.List.{List}
 use mathlib.Core.Path.{_≡_, sym, ap, _∙_}
 use native.Mathlib.Omega.{arith}
-use Rattle.crn_format.specs.Palettes.{changed, alphaSelectorWords}
+use Rattle.crn_format.specs.Palettes.{changed, threeWords, alphaSelectorWords}
 use Rattle.crn_symbol_codec.specs.Decoders.{Decodes}
 use Rattle.crn_palettes.specs.Reaching.{cursorAt, endedAt}
 use Rattle.crn_palettes.specs.declared.reading.Reached.the-variants.{Refused}
 use Rattle.crn_palettes.proofs.Leaving.{ended-some}
 use Rattle.crn_palettes.proofs.Entering.{Filling, filling-none, filling-more, filling-refused, filling-done}
-use Rattle.crn_selectors.specs.Selectors.{valuesOf, Pairs, threeWords}
+use Rattle.crn_selectors.specs.Selectors.{valuesOf, Pairs}
 use Rattle.crn_selectors.proofs.Pairing.{pairs-zero}
 use borrow.Author.Needs.{needs}
 use Rattle.crn_selectors.proofs.alpha_words.Statement.{statement}

@@ -14,7 +14,7 @@ use Rattle.crn_symbol_codec.proofs.Serving.{taken-holds, failed-some}
 use Rattle.crn_symbol_codec.specs.Taking.{refusalOf}
 use Rattle.crn_palettes.specs.Reaching.{cursorAt}
 use Rattle.crn_palettes.proofs.Leaving.{reaches-to, reaches-ended}
-use Rattle.crn_selectors.specs.Selectors.{topOf, bitsOf, linearOf, valuesOf, Pairs}
+use Rattle.crn_selectors.specs.Selectors.{topOf, bitsOf, valuesOf, Pairs}
 use Rattle.crn_selectors.proofs.Changing.{Changed, pairs-none, pair-more, pair-failed, pair-bad, pairs-done}
 use Rattle.crn_selectors.proofs.Packing.{Packed, packed-none}
 use Rattle.crn_selectors.proofs.Pairing.{delta-halves, moved-halves, halves-small, few-bits, pairs-few, values-moved, pairs-moved, pair-fits, pair-packed}
@@ -26,7 +26,7 @@ use Rattle.crn_selectors.proofs.next_word.Tie as tie
 record State (alpha : Bool) (lookup sorted seg : List ℕ) (c : Cursor) (before pairs : List ℕ) (at : Cursor) (word shift j : ℕ) : Type 0 where
   holds : Holds seg at
   eight : Pairs alpha pairs
-  packs : Packed (linearOf alpha) (bitsOf alpha) (valuesOf pairs) word (2 * j) shift
+  packs : Packed (topOf alpha) (bitsOf alpha) (valuesOf pairs) word (2 * j) shift
   changes : (t : List ℕ) → Decodes t lookup sorted → (b : ℕ) → Changed seg (topOf alpha) t j (valuesOf pairs) at (run (fromBits seg) (changed (topOf alpha) t 8 0 (valuesOf before)) (spot (place c) b))
 
 abbrev Inv-loop : tie.InvT-loop
