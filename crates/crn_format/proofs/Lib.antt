@@ -2,6 +2,8 @@ pub mod Choices
 pub mod Steps
 pub mod Answers
 pub mod Drawing
+pub mod Refusing
+pub mod OpeningReadings
 pub mod Kraft
 pub mod Scripts
 pub mod Budget

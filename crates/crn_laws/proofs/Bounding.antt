@@ -6,17 +6,16 @@ use mathlib.Core.List.{List, [], _∷_, _++_}
 use native.Mathlib.Omega.{arith}
 use native.Mathlib.Nat.{suc-mul}
 use lib.ListN.{length, getD}
-use lib.Dec.{ltb, leb}
+use lib.Dec.{ltb}
+use borrow.Author.Tests.{ltb-true}
 use Rattle.crn_format.specs.Choice.{pick, not, either}
 use Rattle.crn_format.specs.Limits.{chunkSymbols}
-use Rattle.crn_format.specs.Bits.{bitCount, spelled}
-use Rattle.crn_format.specs.Codes.{Drawn, symbolAt, failed, drawn, longest}
-use Rattle.crn_format.specs.Reading.{Want, aSymbol, aNumber, Reading, answer, refuse, want, mark, next, Step, got, refused, then, Source, run, Place, spot, served, ofDrawn, fromBits}
+use Rattle.crn_format.specs.Reading.{Want, Reading, answer, refuse, want, mark, next, Step, got, refused, then, Source, run, Place, spot, served, fromBits}
 use Rattle.crn_format.specs.Level.{Plane, stepped, endpointIndex, selectorIndex, endpointIndices, planeEndpoints, planeSelectors, positionSelectors, tileCounts, encoding, Running, Chunk, lasts, lastRow, chunk, chunks, fresh, level}
 use Rattle.crn_format.specs.Grid.{inside, insides}
 use Rattle.crn_format.specs.Unpacking.{allowance}
 use Rattle.crn_format.specs.declared.Grid.{Grid}
-use Rattle.crn_format.proofs.Drawing.{drawn-none}
+use Rattle.crn_format.proofs.Refusing.{Stops, serve-stops}
 use Rattle.crn_laws.specs.Scripts.{AllBelow}
 use Rattle.crn_laws.proofs.Trying.{tried, triedThen}
 
@@ -51,23 +50,11 @@ within-tried src (mark m) n P w h = within-tried src m n P (src .marked w) h
 -- ---- refusals over the bits
 
 served-below : (seg : List ℕ) (x : Want) (w : Place) {n : ℕ} {v : Place} → served seg x w ≡ refused n v → n < 15
-unfolding served ofDrawn
-served-below seg (aSymbol ls) w {n} {v} e = by (drawn ls seg (w .at)) refl e
+served-below seg x w {n} {v} e = by (served seg x w) (serve-stops (λ k. ltb k 15) refl refl seg x w) e
   where
-    seven-or-eight : (b : Bool) → pick b 8 7 < 15
-    seven-or-eight true = omega arith
-    seven-or-eight false = omega arith
-
-    by : (d : Drawn) → drawn ls seg (w .at) ≡ d → ofDrawn d w ≡ refused n v → n < 15
-    by (symbolAt s p) is e = let z : _≡_ {A = ℕ} 0 1 = cc in absurd (omega arith)
-    by (failed x) is e =
-        let z : x ≡ n = cc in
-        omega (arith, drawn-none ls seg (w .at) x is .number, seven-or-eight (ltb (bitCount seg - w .at) (longest ls)))
-served-below seg (aNumber k) w {n} {v} e = by (leb (w .at + k) (bitCount seg)) e
-  where
-    by : (b : Bool) → pick b (got (spelled seg (w .at) k) (spot (w .at + k) (w .blamed))) (refused 8 (spot (w .at) (w .at))) ≡ refused n v → n < 15
-    by true e = let z : _≡_ {A = ℕ} 0 1 = cc in absurd (omega arith)
-    by false e = let z : 8 ≡ n = cc in omega arith
+    by : (y : Step Place ℕ) → Stops (λ k. ltb k 15) y → y ≡ refused n v → n < 15
+    by (got s u) h e = let z : _≡_ {A = ℕ} 0 1 = cc in absurd (omega arith)
+    by (refused k u) h e = let z : k ≡ n = cc in omega (arith, ltb-true k 15 h)
 
 pub within-refused : {A : Type 0} (seg : List ℕ) (m : Reading A) (n : ℕ) (P : A → ℕ → Type 0) (w : Place) {x : ℕ} {v : Place} → Within m n P
     → run (fromBits seg) m w ≡ refused x v → x < 15

@@ -25,7 +25,7 @@ use Rattle.crn_laws_total.specs.Refusals.{among, beforeDraws, inDraws}
 use Rattle.crn_laws_total.specs.Leaves.{Leaves}
 use Rattle.crn_laws_total.specs.Ends.{Declined, LevelEnds}
 use Rattle.crn_laws_total.proofs.Numbers.{among-first, among-second, none-in-both}
-use Rattle.crn_laws_total.proofs.Refusing.{Stops, budget-stops}
+use Rattle.crn_format.proofs.Refusing.{Stops, budget-stops}
 use Rattle.crn_laws_total.proofs.LevelReadings.{level-refuses}
 use Rattle.crn_laws_total.proofs.Bytes.{painted-leaves, blank-leaves}
 use Rattle.crn_laws_total.proofs.Sizes.{through, block-sized}

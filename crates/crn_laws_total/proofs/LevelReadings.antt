@@ -9,7 +9,7 @@ use Rattle.crn_format.specs.Choice.{not, either}
 use Rattle.crn_format.specs.Limits.{chunkSymbols}
 use Rattle.crn_format.specs.Reading.{Reading, answer, next}
 use Rattle.crn_format.specs.Level.{Plane, Chunk, Running, stepped, endpointIndex, selectorIndex, endpointIndices, planeEndpoints, planeSelectors, positionSelectors, encoding, tileCounts, chunk, chunks, fresh, level}
-use Rattle.crn_laws_total.proofs.Refusing.{Refuses, answers, refusing, by-test, one-then, symbol-then}
+use Rattle.crn_format.proofs.Refusing.{Refuses, answers, refusing, by-test, one-then, symbol-then}
 
 module _ (ok : ℕ → Bool) (fourteen : ok 14 ≡ true) where
   an-endpoint : (p : Plane) (i : ℕ) → Refuses ok (endpointIndex p i)

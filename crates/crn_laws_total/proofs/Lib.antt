@@ -1,5 +1,3 @@
-pub mod Refusing
-pub mod OpeningReadings
 pub mod LevelReadings
 pub mod Numbers
 pub mod Words

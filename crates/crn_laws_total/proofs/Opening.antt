@@ -21,8 +21,8 @@ use Rattle.crn_laws_total.specs.Refusals.{among, beforeStreams, inStream
 use Rattle.crn_laws_total.specs.Leaves.{Zeroed, Beyond}
 use Rattle.crn_laws_total.specs.Ends.{Open, Shut, OpeningEnds}
 use Rattle.crn_laws_total.proofs.Numbers.{among-first, among-second, none-in-both}
-use Rattle.crn_laws_total.proofs.Refusing.{Refuses, Stops, bits-stop}
-use Rattle.crn_laws_total.proofs.OpeningReadings.{tables-refuse, color-endpoints, color-selectors, alpha-endpoints, alpha-selectors}
+use Rattle.crn_format.proofs.Refusing.{Refuses, Stops, bits-stop}
+use Rattle.crn_format.proofs.OpeningReadings.{tables-refuse, color-endpoints, color-selectors, alpha-endpoints, alpha-selectors}
 use Rattle.crn_format.proofs.Answers.{All, run-all}
 use Rattle.crn_laws_total.proofs.Words.{Long, color-endpoints-long, color-selectors-long, alpha-endpoints-long, alpha-selectors-long}
 

@@ -16,7 +16,7 @@ use Rattle.crn_format.specs.declared.Grid.{Grid}
 use Rattle.crn_laws.specs.Levels.{unpackingIn}
 use Rattle.crn_laws_total.specs.Refusals.{among, inDraws}
 use Rattle.crn_laws_total.proofs.Numbers.{none-in-both, not-zero}
-use Rattle.crn_laws_total.proofs.Refusing.{Stops}
+use Rattle.crn_format.proofs.Refusing.{Stops}
 use Rattle.crn_laws_total.proofs.Level.{level-stops}
 use Rattle.crn_promises.specs.Calls.{LevelCall, LevelsCall, answerIn}
 use Rattle.crn_promises.specs.Promises.{LevelSame, LevelsSame, Ready, unready, LevelReady, LevelsReady}

@@ -19,7 +19,7 @@ use Rattle.crn_laws.proofs.Ending.{reading, ran, answered, with-enough, few-tri
 use Rattle.crn_laws.proofs.Theorems.{exact-acceptance, told-allowed}
 use Rattle.crn_laws_total.specs.Refusals.{among}
 use Rattle.crn_laws_total.proofs.Numbers.{among-first, among-second}
-use Rattle.crn_laws_total.proofs.Refusing.{Stops as StopsBy, bits-stop}
+use Rattle.crn_format.proofs.Refusing.{Stops as StopsBy, bits-stop}
 use Rattle.crn_laws_total.proofs.LevelReadings.{level-refuses}
 use Rattle.picture.specs.Surfaces.{Plan, pictureOf}
 use Rattle.picture.specs.Writing.{Stop, Container}

@@ -5,15 +5,15 @@ use mathlib.Core.List.{List, [], _∷_, _++_}
 use mathlib.Core.Path.{_≡_}
 use lib.ListN.{length, replicate, set}
 use lib.Dec.{eqb, ltb, leb}
 use Rattle.crn_format.specs.Choice.{either}
 use Rattle.crn_format.specs.Limits.{maxLength, maxSymbols}
 use Rattle.crn_format.specs.Codes.{isCode}
 use Rattle.crn_format.specs.Reading.{Reading, next}
 use Rattle.crn_format.specs.Tables.{lengthOrder, sentLengths, again, runOf, lengthsFrom, checked, coded, counted, table}
 use Rattle.crn_format.specs.Palettes.{entries, Sum, summed, colorSums, colorWord, colorEndpoints, alphaSums, alphaWord, alphaEndpoints, deltaCount, pairMoved, changed, colorSelectorWords, alphaSelectorWords, colorSelectors, alphaSelectors}
 use Rattle.crn_format.specs.Opening.{present, planeTables, sentTables}
 use Rattle.crn_format.specs.declared.Header.{Header}
-use Rattle.crn_laws_total.proofs.Refusing.{Refuses, answers, by-test, one-then}
+use Rattle.crn_format.proofs.Refusing.{Refuses, answers, by-test, one-then}
 
 module _ (ok : ℕ → Bool) (six : ok 6 ≡ true) where
   -- ---- a code table

@@ -51,7 +51,7 @@ module _ (ok : ℕ → Bool) where
         by (symbolAt s p) e = tt
         by (failed n) e = rw (drawn-none ls seg (w .at) n e .number) (by-length (ltb (bitCount seg - w .at) (longest ls)))
 
-    serve-stops : (x : Want) (w : Place) → Stops (served seg x w)
+    pub serve-stops : (x : Want) (w : Place) → Stops (served seg x w)
     unfolding served
     serve-stops (aSymbol ls) w = drawn-stops ls w
     serve-stops (aNumber n) w = by (leb (w .at + n) (bitCount seg))
