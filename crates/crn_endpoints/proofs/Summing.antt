@@ -5,11 +5,12 @@ use mathlib.Core.List.{List, [], _∷_}
 use mathlib.Core.Path.{_≡_, refl, ap}
 use native.Mathlib.Omega.{arith}
 use native.Mathlib.Decide.{ℕ-discrete, decLt}
-use lib.ListN.{length, getD, set, drop, replicate, drop-of-length-le, getD-replicate, length-replicate, List·getD-eq-default}
+use lib.ListN.{length, getD, set, drop, replicate, drop-of-length-le}
 use lib.Seq.{getD-set-same, getD-set-other, set-out}
 use Rattle.crn_format.specs.Choice.{pick}
 use Rattle.crn_format.specs.Reading.{aSymbol, answer, draw, Step, refused, Place, spot, run, fromBits}
 use Rattle.crn_format.specs.Palettes.{Sum, summed, alphaSums, colorSums}
+use Rattle.crn_format.proofs.Zeros.{zeros-at}
 use Rattle.crn_symbol_codec.specs.Cursors.{place}
 use Rattle.crn_symbol_codec.specs.Taking.{Takes}
 use Rattle.crn_symbol_codec.specs.declared.Cursor.{Cursor}
@@ -88,12 +89,8 @@ small-more vs i {v} n {wide} h f e k = go (ℕ-discrete k i) (decLt i (length vs
     go (yes q) (no l) = rw (set-out vs i v (omega arith)) (h k)
 
 pub small-zeros : (n i : ℕ) → getD (replicate n 0) i 0 < modulusOf (sixBits i)
-small-zeros n i = go (decLt i n) (sixBits i)
+small-zeros n i = rw (zeros-at n i) (some (sixBits i))
   where
     some : (six : Bool) → 0 < modulusOf six
     some true = omega arith
     some false = omega arith
-
-    go : Dec (i < n) → (six : Bool) → getD (replicate n 0) i 0 < modulusOf six
-    go (yes h) six = rw (getD-replicate {A = ℕ} n i 0 0 h) (some six)
-    go (no h) six = rw (List·getD-eq-default {A = ℕ} (replicate n 0) 0 {n = i} (omega (arith, length-replicate {A = ℕ} n 0))) (some six)

@@ -13,6 +13,7 @@ pub mod Writing
 pub mod LookAndOpen
 pub mod Loads
 pub mod Heads
+pub mod Zeros
 pub mod SelectorOrder
 pub mod Examples
 pub mod LoadExamples

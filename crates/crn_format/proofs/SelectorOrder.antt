@@ -2,7 +2,6 @@
 -- `fromLinear`) gives both, and each selector palette that is read by the rule is the one that is read by the list.
 use Prim.Native.Nat.{ℕ, zero, suc, _+_, _*_, _/_, _%_, _^_, _≤_, _<_}
 use mathlib.Core.Path.{_≡_, refl, sym, ap, ap₂, _∙_}
-use mathlib.Core.Bool.{Bool, true, false}
 use mathlib.Core.List.{List, [], _∷_, _++_}
 use native.Mathlib.Omega.{arith}
 use native.Mathlib.Decide.{decLt}
@@ -10,12 +9,13 @@ use native.Mathlib.Nat.{mod-lt}
 use lib.ListN.{getD, set, replicate}
 use lib.Dec.{ltb}
 use borrow.Author.Tests.{ne-eqb, lt-ltb, le-ltb}
-use Rattle.crn_format.specs.Choice.{pick}
-use Rattle.crn_format.specs.Reading.{Reading, refuse, next, Source, run}
+use Rattle.crn_format.specs.Reading.{Source, run}
 use Rattle.crn_format.specs.Tables.{table}
 use Rattle.crn_format.specs.Palettes.{entries, deltaCount, raised, moved, pairMoved, changed, fromLinear, packed}
 use Rattle.crn_format.specs.Palettes.{colorSelectorWords, threeWords, alphaSelectorWords, selectors, colorSelectors, alphaSelectors}
-use Rattle.crn_format.proofs.Steps.{then-cong, run-cong}
+use Rattle.crn_format.proofs.Zeros.{zeros-at}
+use Rattle.crn_format.proofs.Steps.{run-cong}
+use Rattle.crn_format.proofs.Answers.{All, all-pick, all-then}
 
 -- ---- the two lists
 
@@ -78,11 +78,6 @@ packed-listed {top} {list} e bits vs h (suc n) = ap₂ (λ (x y : ℕ). x + 2 ^ 
 
 -- ---- a palette
 
-pub zeros-at : (n i : ℕ) → _≡_ {A = ℕ} (getD (replicate n 0) i 0) 0
-zeros-at zero i = refl
-zeros-at (suc n) zero = refl
-zeros-at (suc n) (suc i) = zeros-at n i
-
 set-within : (top : ℕ) (vs : List ℕ) (k x : ℕ) → Within top vs → x ≤ top → Within top (set vs k x)
 set-within top [] k x h m i = h i
 set-within top (v ∷ vs) zero x h m zero = m
@@ -105,36 +100,26 @@ pair-within top j s vs h = set-within top (set vs (2 * j) first) (2 * j + 1) sec
     one : Within top (set vs (2 * j) first)
     one = set-within top vs (2 * j) first h (moved-within top _ (s % deltaCount top))
 
-module _ {S : Type 0} (src : Source S) (top : ℕ) (t : List ℕ) where
-  -- a symbol that has a meaning, or 9
-  either-way : {B : Type 0} (m : Reading (List ℕ)) (f g : List ℕ → Reading B) (w : S) → run src (next m f) w ≡ run src (next m g) w
-      → (b : Bool) → run src (next (pick b m (refuse 9)) f) w ≡ run src (next (pick b m (refuse 9)) g) w
-  unfolding next
-  either-way m f g w e true = e
-  either-way m f g w e false = refl
+-- so a turn leaves values from 0 to top
+turn-within : (top : ℕ) (t : List ℕ) (n j : ℕ) (vs : List ℕ) → Within top vs → All (Within top) (changed top t n j vs)
+unfolding All changed
+turn-within top t zero j vs h = h
+turn-within top t (suc n) j vs h =
+    λ s. all-pick (Within top) (ltb s (deltaCount top * deltaCount top)) _ _
+    (λ _. turn-within top t n (j + 1) (pairMoved top j s vs) (pair-within top j s vs h)) (λ _. tt)
 
-  -- what follows a turn has values from 0 to top to go on with
-  turn-then : {B : Type 0} (n j : ℕ) (vs : List ℕ) (f g : List ℕ → Reading B) (w : S) → Within top vs
-      → ((now : List ℕ) → Within top now → (v : S) → run src (f now) v ≡ run src (g now) v)
-      → run src (next (changed top t n j vs) f) w ≡ run src (next (changed top t n j vs) g) w
-  unfolding changed next run
-  turn-then zero j vs f g w h same = same vs h w
-  turn-then (suc n) j vs f g w h same =
-      then-cong (src .serve _ (src .marked w)) _ _
-      (λ s v.
-      let more = turn-then n (j + 1) (pairMoved top j s vs) f g v (pair-within top j s vs h) same in
-      either-way _ f g v more (ltb s (deltaCount top * deltaCount top)))
-
-  -- entries whose words are the same for such values
-  entries-same : (f g : List ℕ → List ℕ) → ((vs : List ℕ) → Within top vs → f vs ≡ g vs) → (n : ℕ) (vs out : List ℕ) (w : S)
-      → Within top vs → run src (entries (changed top t 8 0) f n vs out) w ≡ run src (entries (changed top t 8 0) g n vs out) w
-  unfolding entries
-  entries-same f g same zero vs out w h = refl
-  entries-same f g same (suc n) vs out w h =
-      turn-then 8 0 vs _ _ w h
-      (λ now m v.
-      entries-same f g same n now (out ++ f now) v m
-      ∙ ap (λ (x : List ℕ). run src (entries (changed top t 8 0) g n now (out ++ x)) v) (same now m))
+-- entries whose words are the same for such values
+entries-same : {S : Type 0} (src : Source S) (top : ℕ) (t : List ℕ) (f g : List ℕ → List ℕ) → ((vs : List ℕ) → Within top vs → f vs ≡ g vs)
+    → (n : ℕ) (vs out : List ℕ) (w : S) → Within top vs
+    → run src (entries (changed top t 8 0) f n vs out) w ≡ run src (entries (changed top t 8 0) g n vs out) w
+unfolding entries
+entries-same src top t f g same zero vs out w h = refl
+entries-same src top t f g same (suc n) vs out w h =
+    all-then src (Within top) (changed top t 8 0 vs) _ _ (turn-within top t 8 0 vs h)
+    (λ now m v.
+    entries-same src top t f g same n now (out ++ f now) v m
+    ∙ ap (λ (x : List ℕ). run src (entries (changed top t 8 0) g n now (out ++ x)) v) (same now m))
+    w
 
 selectors-same : {S : Type 0} (src : Source S) (top : ℕ) (f g : List ℕ → List ℕ) → ((vs : List ℕ) → Within top vs → f vs ≡ g vs)
     → (n : ℕ) (w : S) → run src (selectors top f n) w ≡ run src (selectors top g n) w

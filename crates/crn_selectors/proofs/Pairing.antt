@@ -9,7 +9,8 @@ use native.Mathlib.Nat.{add-mod-mod}
 use lib.ListN.{length, getD, set, replicate, length-set, length-replicate}
 use lib.Seq.{getD-set-same, getD-set-other, set-out}
 use Rattle.crn_format.specs.Palettes.{deltaCount, raised, pairMoved, fromLinear}
-use Rattle.crn_format.proofs.SelectorOrder.{written-within, zeros-at}
+use Rattle.crn_format.proofs.Zeros.{zeros-at}
+use Rattle.crn_format.proofs.SelectorOrder.{written-within}
 use Rattle.crn_selectors.specs.Selectors.{topOf, pairsOf, bitsOf, Halves, valuesOf, Pairs, PairDelta, PairMoved, writtenPair}
 use Rattle.crn_selectors.proofs.Packing.{Packed, packed-kept, two-fit, packed-two}
 
