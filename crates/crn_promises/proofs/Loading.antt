@@ -7,7 +7,7 @@ use mathlib.Core.List.{List}
 use mathlib.Core.Path.{_≡_, refl, sym, ap, _∙_}
 use native.Mathlib.Omega.{arith}
 use Rattle.crn_format.specs.Header.{headerOf}
-use Rattle.crn_format.specs.Look.{found, lookAt, lookOf}
+use Rattle.crn_format.specs.Look.{lookAt, lookOf}
 use Rattle.crn_format.specs.Opening.{Opening, opened, shut, afterLook, opening}
 use Rattle.crn_format.specs.Loading.{agrees, loading}
 use Rattle.crn_format.specs.declared.Looked.{Looked}

@@ -1,10 +1,10 @@
 -- A look and then a load by what it gave are an opening.
 use Prim.Native.Nat.{ℕ}
 use mathlib.Core.List.{List}
-use mathlib.Core.Path.{_≡_, refl, sym, ap, _∙_}
+use mathlib.Core.Path.{_≡_, sym, ap, _∙_}
 use native.Mathlib.Omega.{arith}
 use Rattle.crn_format.specs.Look.{lookOf}
-use Rattle.crn_format.specs.Opening.{Palettes, Opening, shut, opening}
+use Rattle.crn_format.specs.Opening.{Palettes, shut, opening}
 use Rattle.crn_format.specs.Loading.{loading}
 use Rattle.crn_format.specs.declared.Looked.{Looked}
 use Rattle.crn_format.proofs.LookAndOpen.{look-refuses}
