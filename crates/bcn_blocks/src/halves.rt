@@ -4,7 +4,7 @@ ghost use Rattle.crn_utils.specs.Little.{little_at};
 ghost use Rattle.bcn_blocks.specs.Texels.{ColorsAt, LevelsAt};
 
 // Two colours, and selectors of two bits.
-#[derive(Drop)]
+#[derive(Clone, Copy)]
 pub struct ColorHalf {
     pub first: u32,
     pub second: u32,
@@ -12,7 +12,7 @@ pub struct ColorHalf {
 }
 
 // Two levels, and selectors of three bits.
-#[derive(Drop)]
+#[derive(Clone, Copy)]
 pub struct LevelHalf {
     pub first: u32,
     pub second: u32,

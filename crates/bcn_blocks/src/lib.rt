@@ -1,4 +1,6 @@
 // The sixteen texels of a block, by its bytes.
+#![tactic(auto)]
+
 ghost use Rattle.std.specs.Prelude.{true, ◌≡◌, ◌+◌, ◌*◌, ◌≤◌, length};
 ghost use Rattle.crn_format.specs.Header.{DXT1, DXT5, DXT5A, DXN, kind_of, known, block_bytes};
 ghost use Rattle.bcn_blocks.specs.Texels.{Texels};
@@ -62,8 +64,8 @@ fn bc5_at(blocks: &[u8], at: usize) -> Sixteen
 
 // The texels of the n-th block, by the number of a format that is known.
 pub fn block_texels(format: u32, blocks: &[u8], n: usize) -> Sixteen
-    requires fact_1 { known (kind_of format) ≡ true }
-    requires fact_2 { block_bytes (kind_of format) * n + block_bytes (kind_of format) ≤ length blocks.now }
+    requires format_known { known (kind_of format) ≡ true }
+    requires block_in { block_bytes (kind_of format) * n + block_bytes (kind_of format) ≤ length blocks.now }
     ensures { Texels blocks.now (kind_of format) (block_bytes (kind_of format) * n) result }
 {
     if format < 2 {

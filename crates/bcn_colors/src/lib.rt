@@ -1,12 +1,14 @@
 // The four colours that a block's selectors choose among. The two ends, and the two colours between them, are worked on together: a number
 // of 64 bits holds a channel of the one in its lower half and of the other in its upper half.
+#![tactic(auto)]
+
 ghost use Rattle.std.specs.Prelude.{ℕ, ◌+◌, ◌*◌, ◌/◌, ◌%◌, ◌≤◌, true, ◌≡◌, ltb};
 ghost use Rattle.crn_format.specs.Choice.{pick};
 ghost use Rattle.bcn_format.specs.Blocks.{Part};
 ghost use Rattle.bcn_colors.specs.Colors.{Palette, covered, bare, twice, end, lowest, TwoBytes, TwoColors, partway, mix, Share};
 
 // A channel of two colours in each number.
-#[derive(Drop)]
+#[derive(Clone, Copy)]
 struct Both {
     red: u64,
     green: u64,
@@ -59,16 +61,16 @@ fn ends(v: u32, w: u32) -> Both
 
 // So many parts of the one and one of the other, both ways round: a third is 21846 parts of 65536, and a half 32768.
 fn between(x: u64, parts: u64, share: u64) -> u64
-    requires fact_1 { Share parts share }
-    requires fact_2 { ((a b : ℕ) × TwoBytes a b x) }
+    requires share { Share parts share }
+    requires two_bytes { ((a b : ℕ) × TwoBytes a b x) }
     ensures { (a b : ℕ) → TwoBytes a b x → TwoBytes (partway (parts + 1) a b) (partway (parts + 1) b a) result }
 {
     bytes((parts * x + exchanged(x)) * share / 65536)
 }
 
 fn mixed(e: Both, parts: u64, share: u64) -> Both
-    requires fact_1 { Share parts share }
-    requires fact_2 { ((a b : Part → ℕ) × TwoColors a b e) }
+    requires share { Share parts share }
+    requires two_colors { ((a b : Part → ℕ) × TwoColors a b e) }
     ensures { (a b : Part → ℕ) → TwoColors a b e → TwoColors (mix (parts + 1) a b) (mix (parts + 1) b a) result }
 {
     Both {

@@ -1,13 +1,15 @@
 // The levels of a block: its two ends, and what its selectors choose between them, each at once where it belongs in a texel's number: so
 // many times the level, and more.
+#![tactic(auto)]
+
 ghost use Rattle.std.specs.Prelude.{◌≡◌, ◌+◌, ◌*◌, ◌/◌, ◌≤◌, ◌<◌};
 ghost use Rattle.bcn_format.specs.Channels.{ramp};
 ghost use Rattle.bcn_levels.specs.Levels.{Each, Levels, six_levels};
 
 // So far above the lower end, in parts of 65536, rounded down.
 fn above(low: u32, far: u32, scale: u32, more: u32) -> u32
-    requires fact_1 { low * 65536 + far < 16777216 }
-    requires fact_2 { 255 * scale + more < 4294967296 }
+    requires sum_fits { low * 65536 + far < 16777216 }
+    requires more_fits { 255 * scale + more < 4294967296 }
     ensures { result ≡ (low * 65536 + far) / 65536 * scale + more }
 {
     (low * 65536 + far) / 65536 * scale + more
@@ -15,9 +17,9 @@ fn above(low: u32, far: u32, scale: u32, more: u32) -> u32
 
 // Two ends and six between them. A seventh of the way is 9363 parts of 65536: near enough, since no level is rounded another way by it.
 fn eight_levels(a: u32, b: u32, scale: u32, more: u32) -> [u32; 8]
-    requires fact_1 { b < a }
-    requires fact_2 { a < 256 }
-    requires fact_3 { 255 * scale + more < 4294967296 }
+    requires b_below { b < a }
+    requires a_in { a < 256 }
+    requires sum_fits { 255 * scale + more < 4294967296 }
     ensures { Each (ramp 8 7 a b) scale more result }
 {
     let step = (a - b) * 9363;
@@ -35,9 +37,9 @@ fn eight_levels(a: u32, b: u32, scale: u32, more: u32) -> [u32; 8]
 
 // Two ends, four between them, 0 and 255. A fifth of the way is 13108 parts of 65536.
 fn six_levels(a: u32, b: u32, scale: u32, more: u32) -> [u32; 8]
-    requires fact_1 { a ≤ b }
-    requires fact_2 { b < 256 }
-    requires fact_3 { 255 * scale + more < 4294967296 }
+    requires a_below { a ≤ b }
+    requires b_in { b < 256 }
+    requires sum_fits { 255 * scale + more < 4294967296 }
     ensures { Each (six_levels a b) scale more result }
 {
     let step = (b - a) * 13108;
@@ -54,9 +56,9 @@ fn six_levels(a: u32, b: u32, scale: u32, more: u32) -> [u32; 8]
 }
 
 pub fn levels(a: u32, b: u32, scale: u32, more: u32) -> [u32; 8]
-    requires fact_1 { a < 256 }
-    requires fact_2 { b < 256 }
-    requires fact_3 { 255 * scale + more < 4294967296 }
+    requires a_in { a < 256 }
+    requires b_in { b < 256 }
+    requires sum_fits { 255 * scale + more < 4294967296 }
     ensures { Levels a b scale more result }
 {
     if b < a {

@@ -1,4 +1,6 @@
 // Rows of texels, chosen by selectors and put into a lent buffer.
+#![tactic(auto)]
+
 ghost use Rattle.std.specs.Prelude.{◌≡◌, ℕ, ◌+◌, ◌*◌, ◌/◌, ◌%◌, ◌≤◌, ◌<◌, length};
 ghost use Rattle.std.proofs.lemmas.List.Edits.{sets};
 ghost use Rattle.crn_format.specs.Grid.{little};
@@ -7,14 +9,14 @@ ghost use Rattle.bcn_rows.specs.Rows.{texel_of, row_bytes, Holds, Filled, Addabl
 use crn_blocks::put_eight;
 
 // Four texels from left to right, two in a number.
-#[derive(Drop)]
+#[derive(Clone, Copy)]
 pub struct Row {
     pub left: u64,
     pub right: u64,
 }
 
 // The sixteen texels of a block, row by row.
-#[derive(Drop)]
+#[derive(Clone, Copy)]
 pub struct Sixteen {
     pub a: Row,
     pub b: Row,
@@ -124,8 +126,8 @@ fn second(v: u64) -> u32
 
 // The first one, two or three texels of a row.
 fn put_part(dst: &mut [u8], at: usize, r: Row, n: usize)
-    requires fact_1 { n < 4 }
-    requires fact_2 { at + 4 * n ≤ length dst.old }
+    requires n_in { n < 4 }
+    requires room { at + 4 * n ≤ length dst.old }
     ensures { dst.new ≡ sets dst.old at (row_bytes r n) }
 {
     if n == 0 {
@@ -144,8 +146,8 @@ fn put_part(dst: &mut [u8], at: usize, r: Row, n: usize)
 
 // The first n texels of a row: two stores, where it is whole.
 pub fn put_row(dst: &mut [u8], at: usize, r: Row, n: usize)
-    requires fact_1 { n ≤ 4 }
-    requires fact_2 { at + 4 * n ≤ length dst.old }
+    requires n_in { n ≤ 4 }
+    requires room { at + 4 * n ≤ length dst.old }
     ensures { dst.new ≡ sets dst.old at (row_bytes r n) }
 {
     if n == 4 {

@@ -1,4 +1,6 @@
 // The blocks of a grid in a lent destination (document 01, Chunks): made of palette entries, put in their places, cleared and counted.
+#![tactic(auto)]
+
 ghost use Rattle.std.specs.Prelude.{◌≡◌, ◌⊎◌, ◌+◌, ◌*◌, ◌<◌, ◌≤◌, length, get_or, replicate};
 ghost use Rattle.std.proofs.lemmas.List.Edits.{sets};
 ghost use Rattle.crn_format.specs.Grid.{color, alpha, little, painted, face_painted, row_painted, blank, cutouts as «cutouts_of», face_cutouts, row_cutouts};
@@ -58,8 +60,8 @@ pub fn put_eight(dst: &mut [u8], at: usize, v: u64)
 
 // A block of 8 or 16 bytes, zeroed.
 fn clear_block(dst: &mut [u8], at: usize, bytes: usize)
-    requires fact_1 { (bytes ≡ 8) ⊎ (bytes ≡ 16) }
-    requires fact_2 { at + bytes ≤ length dst.old }
+    requires bytes_known { (bytes ≡ 8) ⊎ (bytes ≡ 16) }
+    requires room { at + bytes ≤ length dst.old }
     ensures { dst.new ≡ sets dst.old at (replicate bytes 0) }
 {
     put_eight(dst, at, 0);
@@ -70,9 +72,9 @@ fn clear_block(dst: &mut [u8], at: usize, bytes: usize)
 
 // A row of blocks, and the rows of a face, zeroed.
 fn clear_row(dst: &mut [u8], g: Grid, face: usize, y: usize)
-    requires fact_1 { Room g (length dst.old) }
-    requires fact_2 { face < g.faces }
-    requires fact_3 { y < g.rows }
+    requires room { Room g (length dst.old) }
+    requires face_in { face < g.faces }
+    requires y_in { y < g.rows }
     ensures { dst.new ≡ row_painted g (blank g) face y g.columns dst.old }
 {
     let mut x = 0;
@@ -85,8 +87,8 @@ fn clear_row(dst: &mut [u8], g: Grid, face: usize, y: usize)
 }
 
 fn clear_face(dst: &mut [u8], g: Grid, face: usize)
-    requires fact_1 { Room g (length dst.old) }
-    requires fact_2 { face < g.faces }
+    requires room { Room g (length dst.old) }
+    requires face_in { face < g.faces }
     ensures { dst.new ≡ face_painted g (blank g) face g.rows dst.old }
 {
     let mut y = 0;
@@ -118,10 +120,10 @@ fn pair(dst: &[u8], at: usize) -> u32
 
 // The cut-outs of a row of blocks. The blocks' bytes are told once more, since those of DXT1 are known: the compiler then makes a shorter loop.
 fn cutouts_by(dst: &[u8], g: Grid, face: usize, y: usize, bytes: usize) -> u64
-    requires fact_1 { Room g (length dst.now) }
-    requires fact_2 { face < g.faces }
-    requires fact_3 { y < g.rows }
-    requires fact_4 { bytes ≡ g.bytes }
+    requires room { Room g (length dst.now) }
+    requires face_in { face < g.faces }
+    requires y_in { y < g.rows }
+    requires bytes_same { bytes ≡ g.bytes }
     ensures { (result ≡ row_cutouts (standing g dst.now) face y g.columns) × (result ≤ 65536) }
 {
     let mut n: u64 = 0;
@@ -138,9 +140,9 @@ fn cutouts_by(dst: &[u8], g: Grid, face: usize, y: usize, bytes: usize) -> u64
 }
 
 fn cutouts_row(dst: &[u8], g: Grid, face: usize, y: usize) -> u64
-    requires fact_1 { Room g (length dst.now) }
-    requires fact_2 { face < g.faces }
-    requires fact_3 { y < g.rows }
+    requires room { Room g (length dst.now) }
+    requires face_in { face < g.faces }
+    requires y_in { y < g.rows }
     ensures { (result ≡ row_cutouts (standing g dst.now) face y g.columns) × (result ≤ 65536) }
 {
     if g.bytes == 8 {
@@ -151,8 +153,8 @@ fn cutouts_row(dst: &[u8], g: Grid, face: usize, y: usize) -> u64
 
 // The cut-outs of a face.
 fn cutouts_face(dst: &[u8], g: Grid, face: usize) -> u64
-    requires fact_1 { Room g (length dst.now) }
-    requires fact_2 { face < g.faces }
+    requires room { Room g (length dst.now) }
+    requires face_in { face < g.faces }
     ensures { (result ≡ face_cutouts g (standing g dst.now) face g.rows) × (result ≤ 4294967296) }
 {
     let mut n = 0;

@@ -1,4 +1,6 @@
 // The limits (refusal 2) and the sizes (refusal 3) of a header.
+#![tactic(auto)]
+
 ghost use Rattle.std.specs.Prelude.{◌≡◌};
 ghost use Rattle.crn_format.specs.Header.{entries_fit, within_limits, sizes_in};
 

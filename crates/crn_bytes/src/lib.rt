@@ -1,5 +1,7 @@
 // Bytes as one number. They are read the first lowest, of which the compiler makes one load, and exchanged for a segment's bits, which
 // come most significant first.
+#![tactic(auto)]
+
 ghost use Rattle.std.specs.Prelude.{◌≡◌, ◌+◌, ◌*◌, ◌<◌, ◌≤◌, length};
 ghost use Rattle.crn_format.specs.Bits.{spelled};
 ghost use Rattle.crn_utils.specs.Little.{little_at};

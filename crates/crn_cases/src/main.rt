@@ -1,5 +1,6 @@
 // Opens files, unpacks their levels, writes them as DDS files, and opens them in two calls, case by case from standard input, and writes a
 // line for each call. docs/CASES.md has the format.
+#![tactic(auto)]
 
 ghost use Rattle.std.specs.Prelude.{◌≡◌, ◌+◌, ◌<◌, ◌≤◌, length};
 
@@ -56,7 +57,7 @@ fn take(buffer: &mut [u8]) -> bool {
 }
 
 // A number as the input has it; not whole where the input ends too early.
-#[derive(Drop)]
+#[derive(Clone, Copy)]
 struct Number {
     whole: bool,
     value: usize,
@@ -510,7 +511,7 @@ fn load_call(
 }
 
 // What the calls of a case are of.
-#[derive(Drop)]
+#[derive(Clone, Copy)]
 enum Kind {
     Level,
     Dds,
@@ -760,7 +761,7 @@ fn open_and_call(
 }
 
 // A level call as the input has it; not whole where the input ends too early.
-#[derive(Drop)]
+#[derive(Clone, Copy)]
 struct Call {
     whole: bool,
     level: u32,
@@ -784,7 +785,7 @@ fn take_call() -> Call {
 }
 
 // A record after its edits; not whole where the input ends too early.
-#[derive(Drop)]
+#[derive(Clone, Copy)]
 struct Edited {
     whole: bool,
     file: Record,
@@ -814,7 +815,7 @@ fn take_edits(r: Record) -> Edited {
 }
 
 // How many words of each palette are lent, and the fill byte; or 1 or 2, as for a case.
-#[derive(Drop)]
+#[derive(Clone, Copy)]
 struct Lent {
     ended: u32,
     color_endpoints: usize,
@@ -889,7 +890,7 @@ fn with_lent(file: &[u8], l: Lent, space: &mut [u8]) -> u32 {
 }
 
 // How many bytes were taken into a buffer; or 1 or 2, as for a case.
-#[derive(Drop)]
+#[derive(Clone, Copy)]
 struct Taken {
     ended: u32,
     size: usize,

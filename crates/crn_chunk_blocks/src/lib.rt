@@ -1,4 +1,6 @@
 // The blocks of a chunk that was read, put in their places.
+#![tactic(auto)]
+
 ghost use Rattle.std.specs.Prelude.{◌≡◌, ◌+◌, ◌*◌, ◌<◌, ◌≤◌, length, ltb};
 ghost use Rattle.std.proofs.lemmas.List.Edits.{sets};
 ghost use Rattle.crn_format.specs.Choice.{pick};
@@ -45,9 +47,9 @@ fn block(
     at: usize,
     q: usize,
 )
-    requires fact_1 { q < 4 }
-    requires fact_2 { at + pick ps.two 16 8 ≤ length dst.old }
-    requires fact_3 { Filled (lent_of cends.now csels.now aends.now asels.now) ps out.now (tile_in tiles q) q }
+    requires q_in { q < 4 }
+    requires room { at + pick ps.two 16 8 ≤ length dst.old }
+    requires filled { Filled (lent_of cends.now csels.now aends.now asels.now) ps out.now (tile_in tiles q) q }
     ensures { dst.new ≡ sets dst.old at (block_with (lent_of cends.now csels.now aends.now asels.now) ps out.now (tile_in tiles q) q) }
 {
     let tile = (tiles >> (2 * q)) % 4;
@@ -87,10 +89,10 @@ pub fn blocks(
     right: bool,
     bottom: bool,
 )
-    requires fact_1 { Placeable ps g e (length dst.old) }
-    requires fact_2 { Covered g face cx cy }
-    requires fact_3 { (right ≡ ltb (2 * cx + 1) g.columns) × (bottom ≡ ltb (2 * cy + 1) g.rows) }
-    requires fact_4 { AllFilled (lent_of cends.now csels.now aends.now asels.now) ps e out.now right bottom }
+    requires placeable { Placeable ps g e (length dst.old) }
+    requires covered { Covered g face cx cy }
+    requires sides { (right ≡ ltb (2 * cx + 1) g.columns) × (bottom ≡ ltb (2 * cy + 1) g.rows) }
+    requires all_filled { AllFilled (lent_of cends.now csels.now aends.now asels.now) ps e out.now right bottom }
     ensures { Painted g (block_in (lent_of cends.now csels.now aends.now asels.now) ps e out.now) (4 * chunk_number g face cx cy) (4 * chunk_number g face cx cy + 4) dst.old dst.new }
 {
     let tiles = crn_consts::tiles(e) as usize;

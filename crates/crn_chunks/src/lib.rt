@@ -1,4 +1,6 @@
 // The draws of a chunk (document 01, Chunks): its encoding, its tiles' endpoint indices and its positions' selector indices.
+#![tactic(auto)]
+
 ghost use Rattle.std.specs.Prelude.{◌≡◌, true, ◌+◌, ◌<◌, ◌≤◌, length, get_or};
 ghost use Rattle.crn_format.specs.Limits.{too_long, max_entries};
 ghost use Rattle.crn_format.specs.Reading.{symbol};
@@ -11,7 +13,7 @@ use crn_symbol_codec::{Cursor, Taken, draw, place, refusal};
 use crn_utils::limit;
 
 // A plane: the numbers of its two decoder tables, its palettes' sizes, and whether it is an alpha plane.
-#[derive(Drop)]
+#[derive(Clone, Copy)]
 pub struct Side {
     pub ends: usize,
     pub sels: usize,
@@ -22,7 +24,7 @@ pub struct Side {
 
 // One plane, or two, and their decoder tables: number k stands at k times a step in the lent lookups and sorted symbols; number 0 is
 // the chunk symbols'.
-#[derive(Drop)]
+#[derive(Clone, Copy)]
 pub struct Planes {
     pub two: bool,
     pub first: Side,
@@ -33,7 +35,7 @@ pub struct Planes {
 }
 
 // What is carried from chunk to chunk: the encodings that are pending, as one number, and the planes' running indices.
-#[derive(Drop)]
+#[derive(Clone, Copy)]
 pub struct Carried {
     pub pending: u32,
     pub e0: u64,
@@ -43,7 +45,7 @@ pub struct Carried {
 }
 
 // A cursor, the place before the last symbol, and how many symbols may still be drawn.
-#[derive(Drop)]
+#[derive(Clone, Copy)]
 pub struct Stream {
     pub cursor: Cursor,
     pub blamed: usize,
@@ -51,7 +53,7 @@ pub struct Stream {
 }
 
 // A refusal, the bit that it names, and what is left of the budget.
-#[derive(Drop)]
+#[derive(Clone, Copy)]
 pub struct Stop {
     pub number: u32,
     pub at: usize,
@@ -59,28 +61,28 @@ pub struct Stop {
 }
 
 // A number with the stream after it, a symbol or an index; or the refusal.
-#[derive(Drop)]
+#[derive(Clone, Copy)]
 pub enum Drew {
     Got(u64, Stream),
     Lost(Stop),
 }
 
 // An index of each plane; of one plane the second has no meaning.
-#[derive(Drop)]
+#[derive(Clone, Copy)]
 pub enum Paired {
     Pair(u64, u64, Stream),
     Unpaired(Stop),
 }
 
 // An encoding, and what is pending after it.
-#[derive(Drop)]
+#[derive(Clone, Copy)]
 pub enum Encoded {
     Code(u32, u32, Stream),
     Uncoded(Stop),
 }
 
 // A chunk as read, its encoding; or the refusal.
-#[derive(Drop)]
+#[derive(Clone, Copy)]
 pub enum Chunked {
     Read(u32, Carried, Stream),
     Refused(Stop),
@@ -95,8 +97,8 @@ fn budgeted_draw(
     which: usize,
     s: Stream,
 ) -> Taken
-    requires fact_1 { Ready lookup.now sorted.now seg.now ps s }
-    requires fact_2 { which < ps.tables }
+    requires ready { Ready lookup.now sorted.now seg.now ps s }
+    requires which_in { which < ps.tables }
     ensures { Budgeted lookup.now sorted.now seg.now ps which s result }
 {
     if s.left == 0 {
@@ -112,8 +114,8 @@ fn budgeted_draw(
 
 // A symbol of table number `which`, under the budget. A draw that brings none gives its refusal, 7, 8 or 15, and nothing is drawn after it.
 fn take(lookup: &[u32], sorted: &[u16], seg: &[u8], ps: Planes, which: usize, s: Stream) -> Drew
-    requires fact_1 { Ready lookup.now sorted.now seg.now ps s }
-    requires fact_2 { which < ps.tables }
+    requires ready { Ready lookup.now sorted.now seg.now ps s }
+    requires which_in { which < ps.tables }
     ensures { Draws lookup.now sorted.now seg.now ps (λ cs. symbol (cs which)) s farthest result }
 {
     let c = s.cursor;
@@ -149,10 +151,10 @@ fn index(
     i: u64,
     s: Stream,
 ) -> Drew
-    requires fact_1 { Ready lookup.now sorted.now seg.now ps s }
-    requires fact_2 { which < ps.tables }
-    requires fact_3 { size ≤ max_entries }
-    requires fact_4 { i < most }
+    requires ready { Ready lookup.now sorted.now seg.now ps s }
+    requires which_in { which < ps.tables }
+    requires size_in { size ≤ max_entries }
+    requires i_in { i < most }
     ensures { Draws lookup.now sorted.now seg.now ps (λ cs. index_of (cs which) size inside i) s (reach inside i) result }
 {
     let a = take(lookup, sorted, seg, ps, which, s);
@@ -186,11 +188,11 @@ fn plane_tiles(
     s: Stream,
     out: &mut [u64],
 ) -> Drew
-    requires fact_1 { Ready lookup.now sorted.now seg.now ps s }
-    requires fact_2 { Named ps p }
-    requires fact_3 { Small p }
-    requires fact_4 { i < most }
-    requires fact_5 { base + n ≤ length out.old }
+    requires ready { Ready lookup.now sorted.now seg.now ps s }
+    requires named { Named ps p }
+    requires small { Small p }
+    requires i_in { i < most }
+    requires range_in { base + n ≤ length out.old }
     ensures { Tiled lookup.now sorted.now seg.now ps p base n i s out.old out.new result }
 {
     let mut at = s;
@@ -221,10 +223,10 @@ fn all_tiles(
     s: Stream,
     out: &mut [u64],
 ) -> Paired
-    requires fact_1 { Ready lookup.now sorted.now seg.now ps s }
-    requires fact_2 { (e0 < most) × (e1 < most) }
-    requires fact_3 { n ≤ 4 }
-    requires fact_4 { length out.old ≡ 16 }
+    requires ready { Ready lookup.now sorted.now seg.now ps s }
+    requires encodings_in { (e0 < most) × (e1 < most) }
+    requires n_in { n ≤ 4 }
+    requires out_long { length out.old ≡ 16 }
     ensures { AllTiled lookup.now sorted.now seg.now ps n e0 e1 s out.new result }
 {
     let p = ps.first;
@@ -256,8 +258,8 @@ fn position(
     s1: u64,
     s: Stream,
 ) -> Paired
-    requires fact_1 { Ready lookup.now sorted.now seg.now ps s }
-    requires fact_2 { (s0 < most) × (s1 < most) }
+    requires ready { Ready lookup.now sorted.now seg.now ps s }
+    requires symbols_in { (s0 < most) × (s1 < most) }
     ensures { Picks lookup.now sorted.now seg.now ps inside s0 s1 s result }
 {
     let p = ps.first;
@@ -309,9 +311,9 @@ fn positions(
     s: Stream,
     out: &mut [u64],
 ) -> Paired
-    requires fact_1 { Ready lookup.now sorted.now seg.now ps s }
-    requires fact_2 { (s0 < most) × (s1 < most) }
-    requires fact_3 { length out.old ≡ 16 }
+    requires ready { Ready lookup.now sorted.now seg.now ps s }
+    requires symbols_in { (s0 < most) × (s1 < most) }
+    requires out_long { length out.old ≡ 16 }
     ensures { AllPicked lookup.now sorted.now seg.now ps (inside_of right bottom) s0 s1 s out.old out.new result }
 {
     let mut at = s;
@@ -380,9 +382,9 @@ pub fn read_chunk(
     s: Stream,
     out: &mut [u64; 16],
 ) -> Chunked
-    requires fact_1 { length seg.now < too_long }
-    requires fact_2 { Served ps lookup.now sorted.now }
-    requires fact_3 { Onward seg.now r s }
+    requires seg_long { length seg.now < too_long }
+    requires served { Served ps lookup.now sorted.now }
+    requires onward { Onward seg.now r s }
     ensures { Reads lookup.now sorted.now seg.now ps right bottom r s out.new result }
 {
     match next_encoding(lookup, sorted, seg, ps, r.pending, s) {

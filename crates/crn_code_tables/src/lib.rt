@@ -1,4 +1,6 @@
 // A code table received from a segment.
+#![tactic(auto)]
+
 ghost use Rattle.std.specs.Prelude.{◌≡◌, ◌<◌, length, replicate};
 ghost use Rattle.crn_format.specs.Limits.{max_symbols, too_long};
 ghost use Rattle.crn_symbol_codec.specs.Cursors.{Holds};
@@ -9,7 +11,7 @@ use crn_symbol_codec::Cursor;
 mod parts;
 
 // A table received: refusal 0, the place after it, the cursor there and the count of symbols; or the refusal, the bit that it names, the cursor as it was and 0.
-#[derive(Drop)]
+#[derive(Clone, Copy)]
 pub struct Received {
     pub refusal: u32,
     pub at: usize,
@@ -19,9 +21,9 @@ pub struct Received {
 
 // A code table as it is sent (document 01, Codes), into lengths that are all zero; after a refusal they are so again.
 pub fn receive(seg: &[u8], c: Cursor, lengths: &mut [u8; 8192]) -> Received
-    requires fact_1 { Holds seg.now c }
-    requires fact_2 { length seg.now < too_long }
-    requires fact_3 { lengths.old ≡ replicate max_symbols 0 }
+    requires holds { Holds seg.now c }
+    requires seg_long { length seg.now < too_long }
+    requires lengths_zero { lengths.old ≡ replicate max_symbols 0 }
     ensures { Receives seg.now c result lengths.new }
 {
     let r = parts::sent_table(seg, c, lengths);

@@ -15,7 +15,7 @@ use crn_static_huffman_data_model::{build, is_code};
 use crn_symbol_codec::{Cursor, Taken, place, refusal};
 
 // The lengths of the code of lengths: refusal 0 and the cursor after them; or the refusal and the cursor at the bit that it names.
-#[derive(Drop)]
+#[derive(Clone, Copy)]
 struct Sent {
     refusal: u32,
     cursor: Cursor,
@@ -23,7 +23,7 @@ struct Sent {
 }
 
 // The lengths of a table: refusal 0, the cursor after them and the room that their codes take; or the refusal, the cursor at the bit that it names and 0.
-#[derive(Drop)]
+#[derive(Clone, Copy)]
 struct Ran {
     refusal: u32,
     cursor: Cursor,
@@ -32,8 +32,8 @@ struct Ran {
 
 // A refusal that names the bit at a cursor. The cursor `home` is handed back.
 fn refused(seg: &[u8], number: u32, at: Cursor, home: Cursor) -> Received
-    requires fact_1 { Holds seg.now at }
-    requires fact_2 { length seg.now < too_long }
+    requires holds { Holds seg.now at }
+    requires seg_long { length seg.now < too_long }
     ensures { result ≡ declined home number («place_of» at) }
 {
     Received {
@@ -46,8 +46,8 @@ fn refused(seg: &[u8], number: u32, at: Cursor, home: Cursor) -> Received
 
 // The lengths of the code of lengths: three bits for each of the first n length symbols, 0 for the others.
 fn sent_lengths(seg: &[u8], c: Cursor, n: usize) -> Sent
-    requires fact_1 { Holds seg.now c }
-    requires fact_2 { n ≤ 21 }
+    requires holds { Holds seg.now c }
+    requires n_in { n ≤ 21 }
     ensures { Sends seg.now n c result }
 {
     let mut lengths = [0u8; 21];
@@ -145,10 +145,10 @@ fn lengths_by_runs(
     count: usize,
     lengths: &mut [u8],
 ) -> Ran
-    requires fact_1 { Holds seg.now c }
-    requires fact_2 { count ≤ max_symbols }
-    requires fact_3 { SomeCode lookup.now sorted.now }
-    requires fact_4 { lengths.old ≡ replicate max_symbols 0 }
+    requires holds { Holds seg.now c }
+    requires count_in { count ≤ max_symbols }
+    requires some_code { SomeCode lookup.now sorted.now }
+    requires lengths_zero { lengths.old ≡ replicate max_symbols 0 }
     ensures { Runs lookup.now sorted.now seg.now c count result lengths.new }
 {
     let mut done: usize = 0;
@@ -231,11 +231,11 @@ fn table_by_runs(
     home: Cursor,
     lengths: &mut [u8],
 ) -> Received
-    requires fact_1 { Holds seg.now c }
-    requires fact_2 { length seg.now < too_long }
-    requires fact_3 { count ≤ max_symbols }
-    requires fact_4 { SomeCode lookup.now sorted.now }
-    requires fact_5 { lengths.old ≡ replicate max_symbols 0 }
+    requires holds { Holds seg.now c }
+    requires seg_long { length seg.now < too_long }
+    requires count_in { count ≤ max_symbols }
+    requires some_code { SomeCode lookup.now sorted.now }
+    requires lengths_zero { lengths.old ≡ replicate max_symbols 0 }
     ensures { (cl : List ℕ) → Decodes cl lookup.now sorted.now → Tells seg.now home (run (from_bits seg.now) (all_runs cl count) (spot («place_of» c) («place_of» c))) result lengths.new }
 {
     let ran = lengths_by_runs(lookup, sorted, seg, c, count, lengths);
@@ -266,10 +266,10 @@ fn coded_table(
     home: Cursor,
     out: &mut [u8],
 ) -> Received
-    requires fact_1 { Holds seg.now c }
-    requires fact_2 { length seg.now < too_long }
-    requires fact_3 { (count ≤ max_symbols) × (n ≤ 21) }
-    requires fact_4 { out.old ≡ replicate max_symbols 0 }
+    requires holds { Holds seg.now c }
+    requires seg_long { length seg.now < too_long }
+    requires count_in { (count ≤ max_symbols) × (n ≤ 21) }
+    requires out_zero { out.old ≡ replicate max_symbols 0 }
     ensures { TellsAt seg.now (coded count n) c home result out.new }
 {
     let sent = sent_lengths(seg, c, n);
@@ -290,10 +290,10 @@ fn coded_table(
 
 // A table of `count` symbols, from the number of lengths of the code of lengths on.
 fn counted_table(seg: &[u8], c: Cursor, count: usize, home: Cursor, out: &mut [u8]) -> Received
-    requires fact_1 { Holds seg.now c }
-    requires fact_2 { length seg.now < too_long }
-    requires fact_3 { count ≤ max_symbols }
-    requires fact_4 { out.old ≡ replicate max_symbols 0 }
+    requires holds { Holds seg.now c }
+    requires seg_long { length seg.now < too_long }
+    requires count_in { count ≤ max_symbols }
+    requires out_zero { out.old ≡ replicate max_symbols 0 }
     ensures { TellsAt seg.now (counted count) c home result out.new }
 {
     let Taken::Value(n, d) = crn_symbol_codec::number(seg, c, 5) else {
@@ -310,9 +310,9 @@ fn counted_table(seg: &[u8], c: Cursor, count: usize, home: Cursor, out: &mut [u
 
 // A table, from its count of symbols on.
 pub fn sent_table(seg: &[u8], c: Cursor, out: &mut [u8]) -> Received
-    requires fact_1 { Holds seg.now c }
-    requires fact_2 { length seg.now < too_long }
-    requires fact_3 { out.old ≡ replicate max_symbols 0 }
+    requires holds { Holds seg.now c }
+    requires seg_long { length seg.now < too_long }
+    requires out_zero { out.old ≡ replicate max_symbols 0 }
     ensures { TellsAt seg.now table c c result out.new }
 {
     let Taken::Value(count, d) = crn_symbol_codec::number(seg, c, 14) else {

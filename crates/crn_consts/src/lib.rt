@@ -1,5 +1,7 @@
 // What all CRN files have in common: the constant tables (document 01, Codes, Palettes and Chunks), each read by a function, and the order
 // in which a block writes selectors.
+#![tactic(auto)]
+
 ghost use Rattle.std.specs.Prelude.{◌≡◌, ◌<◌, ◌≤◌, get_or};
 ghost use Rattle.crn_format.specs.Level.{tile_counts};
 ghost use Rattle.crn_format.specs.Palettes.{from_linear};
@@ -11,7 +13,7 @@ ghost use Rattle.crn_consts.specs.AlphaDeltas.{AlphaDeltas, AllDeltas};
 mod tables;
 
 // What an alpha selector symbol adds to two running values, each raised by 8 so that it is not negative.
-#[derive(Drop)]
+#[derive(Clone, Copy)]
 pub struct Deltas {
     pub first: u32,
     pub second: u32,

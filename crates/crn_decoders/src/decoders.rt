@@ -6,7 +6,7 @@ use crn_formats::Counts;
 use crn_static_huffman_data_model::build;
 
 // How many first bits of a code are looked up, and how far apart two lookups are and the sorted symbols of two tables.
-#[derive(Drop)]
+#[derive(Clone, Copy)]
 pub struct Sizes {
     pub most: u64,
     pub lookup_step: usize,
@@ -57,9 +57,9 @@ pub fn sizes_for(counts: Counts, columns: usize, rows: usize) -> Sizes
 
 // Table number k, of the first `count` lengths. Those before it stay.
 fn make(lengths: &[u8], count: u32, k: usize, s: Sizes, lookup: &mut [u32], sorted: &mut [u16])
-    requires fact_1 { Fair lengths.now count s.sorted_step }
-    requires fact_2 { Able s (length lookup.old) (length sorted.old) }
-    requires fact_3 { k < 5 }
+    requires fair { Fair lengths.now count s.sorted_step }
+    requires able { Able s (length lookup.old) (length sorted.old) }
+    requires k_in { k < 5 }
     ensures { (cs : ℕ → List ℕ) → cs k ≡ take count lengths.now → CodedTo cs k s lookup.old sorted.old → CodedTo cs (k + 1) s lookup.new sorted.new }
 {
     let n = count as usize;
@@ -86,10 +86,10 @@ fn make_pair<'a>(
     lookup: &mut [u32],
     sorted: &mut [u16],
 )
-    requires fact_1 { Fair ends.now end_count s.sorted_step }
-    requires fact_2 { Fair sels.now sel_count s.sorted_step }
-    requires fact_3 { Able s (length lookup.old) (length sorted.old) }
-    requires fact_4 { k < 4 }
+    requires ends_fair { Fair ends.now end_count s.sorted_step }
+    requires sels_fair { Fair sels.now sel_count s.sorted_step }
+    requires able { Able s (length lookup.old) (length sorted.old) }
+    requires k_in { k < 4 }
     ensures { (cs : ℕ → List ℕ) → cs k ≡ take end_count ends.now → cs (k + 1) ≡ take sel_count sels.now → CodedTo cs k s lookup.old sorted.old → CodedTo cs (k + 2) s lookup.new sorted.new }
 {
     make(ends, end_count, k, s, lookup, sorted);
@@ -110,8 +110,8 @@ pub fn make_tables<'a>(
     lookup: &mut [u32],
     sorted: &mut [u16],
 )
-    requires fact_1 { AllFair counts chunk.now color_ends.now color_sels.now alpha_ends.now alpha_sels.now s.sorted_step }
-    requires fact_2 { Able s (length lookup.old) (length sorted.old) }
+    requires all_fair { AllFair counts chunk.now color_ends.now color_sels.now alpha_ends.now alpha_sels.now s.sorted_step }
+    requires able { Able s (length lookup.old) (length sorted.old) }
     ensures { CodedTo (codes_by alpha counts chunk.now color_ends.now color_sels.now alpha_ends.now alpha_sels.now) (tables_in color alpha) s lookup.new sorted.new }
 {
     make(chunk, counts.chunk, 0, s, lookup, sorted);

@@ -1,4 +1,6 @@
 // What a level draws by: the tables of a handed record checked, decoder tables made of them, the planes of a format.
+#![tactic(auto)]
+
 mod table_checks; // the tables of a handed record
 mod decoders; // the decoder tables
 mod planning; // the planes of a format

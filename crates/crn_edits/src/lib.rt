@@ -1,4 +1,6 @@
 // The edits of a record that `crn_cases` makes, each a field, an index and a value (docs/CASES.md).
+#![tactic(auto)]
+
 ghost use Rattle.std.specs.Prelude.{◌≡◌, ◌%◌, set, eqb};
 ghost use Rattle.crn_format.specs.Choice.{pick};
 ghost use Rattle.crn_edits.specs.Edits.{chosen as «chosen_of», part_edited, header_edited, table_edited, tables_edited, record_edited};

@@ -1,4 +1,6 @@
 // Endpoints: running sums (document 01, Palettes).
+#![tactic(auto)]
+
 ghost use Rattle.std.specs.Prelude.{◌≡◌, ℕ, ◌+◌, ◌%◌, ◌<◌, ◌≤◌, List, [], ◌∷◌, length};
 ghost use Rattle.crn_format.specs.Limits.{too_long, max_entries};
 ghost use Rattle.crn_format.specs.Choice.{pick};
@@ -34,9 +36,9 @@ fn alpha_sums(
     c: Cursor,
     values: &mut [u8; 2],
 ) -> Reached
-    requires fact_1 { Holds seg.now c }
-    requires fact_2 { length seg.now < too_long }
-    requires fact_3 { SomeCode lookup.now sorted.now }
+    requires holds { Holds seg.now c }
+    requires seg_long { length seg.now < too_long }
+    requires some_code { SomeCode lookup.now sorted.now }
     ensures { (t : List ℕ) → Decodes t lookup.now sorted.now → (b : ℕ) → Reaches seg.now (summed (alpha_sums t) 0 values.old) c b values.new result }
 {
     let mut at = c;
@@ -70,10 +72,10 @@ fn alpha_words(
     count: usize,
     out: &mut [u16],
 ) -> Ended
-    requires fact_1 { Holds seg.now c }
-    requires fact_2 { length seg.now < too_long }
-    requires fact_3 { SomeCode lookup.now sorted.now }
-    requires fact_4 { count ≤ length out.old }
+    requires holds { Holds seg.now c }
+    requires seg_long { length seg.now < too_long }
+    requires some_code { SomeCode lookup.now sorted.now }
+    requires count_in { count ≤ length out.old }
     ensures { (t : List ℕ) → Decodes t lookup.now sorted.now → FillsFrom seg.now c (alpha_entries t count) out.old out.new result }
 {
     let mut values = [0u8; 2];
@@ -116,9 +118,9 @@ fn draw_either<'a>(
     seg: &[u8],
     c: Cursor,
 ) -> Taken
-    requires fact_1 { Holds seg.now c }
-    requires fact_2 { SomeCode lookup5.now sorted5.now }
-    requires fact_3 { SomeCode lookup6.now sorted6.now }
+    requires holds { Holds seg.now c }
+    requires code_5 { SomeCode lookup5.now sorted5.now }
+    requires code_6 { SomeCode lookup6.now sorted6.now }
     ensures { (t5 t6 : List ℕ) → Decodes t5 lookup5.now sorted5.now → Decodes t6 lookup6.now sorted6.now → Takes seg.now (a_symbol (pick six t6 t5)) c result }
 {
     let lookup = if six { lookup6 } else { lookup5 };
@@ -147,11 +149,11 @@ fn color_sums<'a>(
     c: Cursor,
     values: &mut [u8; 6],
 ) -> Reached
-    requires fact_1 { Holds seg.now c }
-    requires fact_2 { length seg.now < too_long }
-    requires fact_3 { SomeCode lookup5.now sorted5.now }
-    requires fact_4 { SomeCode lookup6.now sorted6.now }
-    requires fact_5 { Small values.old }
+    requires holds { Holds seg.now c }
+    requires seg_long { length seg.now < too_long }
+    requires code_5 { SomeCode lookup5.now sorted5.now }
+    requires code_6 { SomeCode lookup6.now sorted6.now }
+    requires small { Small values.old }
     ensures { ((t : List ℕ × List ℕ) → Decodes t.0 lookup5.now sorted5.now × Decodes t.1 lookup6.now sorted6.now → (b : ℕ) → Reaches seg.now (summed (color_sums t.0 t.1) 0 values.old) c b values.new result) × Small values.new }
 {
     let mut at = c;
@@ -194,11 +196,11 @@ fn color_words<'a>(
     count: usize,
     out: &mut [u32],
 ) -> Ended
-    requires fact_1 { Holds seg.now c }
-    requires fact_2 { length seg.now < too_long }
-    requires fact_3 { SomeCode lookup5.now sorted5.now }
-    requires fact_4 { SomeCode lookup6.now sorted6.now }
-    requires fact_5 { count ≤ length out.old }
+    requires holds { Holds seg.now c }
+    requires seg_long { length seg.now < too_long }
+    requires code_5 { SomeCode lookup5.now sorted5.now }
+    requires code_6 { SomeCode lookup6.now sorted6.now }
+    requires count_in { count ≤ length out.old }
     ensures { (t : List ℕ × List ℕ) → Decodes t.0 lookup5.now sorted5.now × Decodes t.1 lookup6.now sorted6.now → FillsFrom seg.now c (color_entries t.0 t.1 count) out.old out.new result }
 {
     let mut values = [0u8; 6];

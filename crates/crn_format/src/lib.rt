@@ -1,8 +1,9 @@
 // The records of a CRN file, as the definitions in specs/ speak of them.
+#![tactic(auto)]
 
 // Where a part of the file stands, and how many palette entries it has.
 #[repr(C)]
-#[derive(Drop)]
+#[derive(Clone, Copy)]
 pub struct Part {
     pub offset: u32,
     pub size: u32,
@@ -11,7 +12,7 @@ pub struct Part {
 
 // The header's fields as read. A level that the file does not have is at offset 0.
 #[repr(C)]
-#[derive(Drop)]
+#[derive(Clone, Copy)]
 pub struct Header {
     pub header_size: u32,
     pub header_crc16: u32,
@@ -37,7 +38,7 @@ pub struct Header {
 
 // What a look at a header gives: refusal 0 with the header; else the number of the refusal, with the empty header.
 #[repr(C)]
-#[derive(Drop)]
+#[derive(Clone, Copy)]
 pub struct Looked {
     pub refusal: u32,
     pub header: Header,
@@ -45,7 +46,7 @@ pub struct Looked {
 
 // A code table: how many symbols it was sent for, and each symbol's code length, zero beyond the count.
 #[repr(C)]
-#[derive(Drop)]
+#[derive(Clone, Copy)]
 pub struct Table {
     pub count: u32,
     pub lengths: [u8; 8192],
@@ -53,7 +54,7 @@ pub struct Table {
 
 // The five code tables of a file's levels.
 #[repr(C)]
-#[derive(Drop)]
+#[derive(Clone, Copy)]
 pub struct Tables {
     pub chunk_encoding: Table,
     pub color_endpoint_delta: Table,
@@ -64,14 +65,14 @@ pub struct Tables {
 
 // An opened file.
 #[repr(C)]
-#[derive(Drop)]
+#[derive(Clone, Copy)]
 pub struct Record {
     pub header: Header,
     pub tables: Tables,
 }
 
 // The blocks of a level: faces of rows of columns, each so many bytes; a row is a pitch from the next, a face a distance.
-#[derive(Drop)]
+#[derive(Clone, Copy)]
 pub struct Grid {
     pub faces: usize,
     pub columns: usize,

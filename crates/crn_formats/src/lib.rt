@@ -1,4 +1,6 @@
 // What checks of a header are made of: the limits, conditions put together, and which planes a format has. And a record by its parts.
+#![tactic(auto)]
+
 mod limits; // the limits of document 01
 mod conditions; // conditions put together
 mod formats; // which planes a format has

@@ -2,7 +2,7 @@
 
 // How many symbols each of the five tables of a record is for.
 #[repr(C)]
-#[derive(Drop)]
+#[derive(Clone, Copy)]
 pub struct Counts {
     pub chunk: u32,
     pub color_ends: u32,

@@ -1,4 +1,6 @@
 // The signature and the fields of a header (document 01, Header). A byte past the end of what is handed in counts as 0.
+#![tactic(auto)]
+
 ghost use Rattle.std.specs.Prelude.{◌≡◌};
 ghost use Rattle.crn_format.specs.Limits.{max_levels};
 ghost use Rattle.crn_format.specs.Header.{signed_in, field, part_at, offset_at, offsets_from, header_of};

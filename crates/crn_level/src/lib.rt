@@ -1,4 +1,6 @@
 // A level unpacked: the checks before it in their order, and then its chunks.
+#![tactic(auto)]
+
 mod unpacking;
 
 pub use crn_drawing::Unpacked;

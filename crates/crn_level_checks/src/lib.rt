@@ -1,5 +1,7 @@
 // What is checked of a level before its first draw, of a handed header: its segment (refusal 4) and the palettes that its format uses
 // (refusal 5). A handed header may hold anything.
+#![tactic(auto)]
+
 ghost use Rattle.std.specs.Prelude.{◌≡◌, get_or};
 ghost use Rattle.crn_format.specs.Unpacking.{level_start, level_end, level_stands, palettes_reach};
 ghost use Rattle.crn_formats.specs.Lent.{lent_of};

@@ -1,4 +1,6 @@
 // All levels of a file from one on, in one call: the decoder tables are made once.
+#![tactic(auto)]
+
 ghost use Rattle.std.specs.Prelude.{◌≡◌, true, ◌-◌, length};
 ghost use Rattle.crn_format.specs.Header.{within_limits};
 ghost use Rattle.crn_format.specs.Unpacking.{tables_hold};
@@ -22,7 +24,7 @@ use crn_sizes::level_sizes;
 // How many levels went through and their cut-outs, and the symbols drawn in all; and the refusal of the level after them, with the bit that it names, 0 where each went
 // through.
 #[repr(C)]
-#[derive(Drop)]
+#[derive(Clone, Copy)]
 pub struct Several {
     pub refusal: u32,
     pub at: usize,

@@ -16,7 +16,7 @@ use crn_palettes::{clear16, clear32};
 use crn_segments::{room_for, segments_stand};
 
 // Refusal 0 with the opened file; else the refusal, the bit that it names (0 before the streams), and the empty record.
-#[derive(Drop)]
+#[derive(Clone, Copy)]
 pub struct Opened {
     pub refusal: u32,
     pub at: usize,
@@ -25,7 +25,7 @@ pub struct Opened {
 
 // The same without the tables' lengths, which are left in lent arrays.
 #[repr(C)]
-#[derive(Drop)]
+#[derive(Clone, Copy)]
 pub struct OpenedHeader {
     pub refusal: u32,
     pub at: usize,

@@ -12,7 +12,7 @@ use crn_formats::Counts;
 use crn_symbol_codec::Cursor;
 
 // A plane's two delta tables, by their counts, and the cursor after them; or the refusal and the bit that it names.
-#[derive(Drop)]
+#[derive(Clone, Copy)]
 struct Pair {
     refusal: u32,
     at: usize,
@@ -22,7 +22,7 @@ struct Pair {
 }
 
 // The five tables, by their counts; or the refusal and the bit that it names.
-#[derive(Drop)]
+#[derive(Clone, Copy)]
 pub struct Sent {
     pub refusal: u32,
     pub at: usize,
@@ -37,9 +37,9 @@ fn plane_tables(
     endpoints: &mut [u8; 8192],
     selectors: &mut [u8; 8192],
 ) -> Pair
-    requires fact_1 { Holds seg.now c }
-    requires fact_2 { length seg.now < too_long }
-    requires fact_3 { (endpoints.old ≡ replicate max_symbols 0) × (selectors.old ≡ replicate max_symbols 0) }
+    requires holds { Holds seg.now c }
+    requires seg_long { length seg.now < too_long }
+    requires both_zero { (endpoints.old ≡ replicate max_symbols 0) × (selectors.old ≡ replicate max_symbols 0) }
     ensures { Pairs seg.now there c result endpoints.new selectors.new }
 {
     if !there {
@@ -106,8 +106,8 @@ pub fn read_tables(
     alpha_endpoints: &mut [u8; 8192],
     alpha_selectors: &mut [u8; 8192],
 ) -> Sent
-    requires fact_1 { length seg.now < too_long }
-    requires fact_2 { AllZero chunk.old color_endpoints.old color_selectors.old alpha_endpoints.old alpha_selectors.old }
+    requires seg_long { length seg.now < too_long }
+    requires all_zero { AllZero chunk.old color_endpoints.old color_selectors.old alpha_endpoints.old alpha_selectors.old }
     ensures { told result chunk.new color_endpoints.new color_selectors.new alpha_endpoints.new alpha_selectors.new ≡ sent_of (run (from_bits seg.now) (sent_tables h) start) }
 {
     let color_palette = h.color_endpoints;

@@ -10,14 +10,14 @@ use crn_static_huffman_data_model::build;
 use crn_symbol_codec::Cursor;
 
 // The cursor after a part; or the refusal and the bit that it names.
-#[derive(Drop)]
+#[derive(Clone, Copy)]
 pub enum Reached {
     To(Cursor),
     Refused(u32, usize),
 }
 
 // A code table that was received: how many symbols it has, and the cursor after it; or the refusal and the bit that it names.
-#[derive(Drop)]
+#[derive(Clone, Copy)]
 pub enum Sent {
     Table(usize, Cursor),
     Refused(u32, usize),
@@ -32,9 +32,9 @@ pub fn wide(x: u8) -> u32
 
 // A code table is received into lengths that are all zero; those behind it stay so, and all of them where it is refused.
 pub fn receive_lengths(seg: &[u8], c: Cursor, lengths: &mut [u8; 8192]) -> Sent
-    requires fact_1 { Holds seg.now c }
-    requires fact_2 { length seg.now < too_long }
-    requires fact_3 { lengths.old ≡ replicate max_symbols 0 }
+    requires holds { Holds seg.now c }
+    requires seg_long { length seg.now < too_long }
+    requires lengths_zero { lengths.old ≡ replicate max_symbols 0 }
     ensures { Lengths seg.now c lengths.new result }
 {
     let received = receive(seg, c, lengths);
@@ -55,8 +55,8 @@ pub fn build_decoder(
     lookup: &mut [u32],
     sorted: &mut [u16],
 )
-    requires fact_1 { Codes lengths.now count }
-    requires fact_2 { (0 < most) × (most ≤ 13) × (32 + 2 ^ most ≤ length lookup.old) × (count ≤ length sorted.old) }
+    requires codes { Codes lengths.now count }
+    requires tables_fit { (0 < most) × (most ≤ 13) × (32 + 2 ^ most ≤ length lookup.old) × (count ≤ length sorted.old) }
     ensures { Decodes (take count lengths.now) lookup.new sorted.new }
 {
     build(&lengths[..count], most, lookup, sorted);

@@ -1,6 +1,8 @@
 // A chunk by a quick way (document 01, Chunks). Its cursor stands in registers, and the budget is looked at once: where the quick way is lost
 // nothing is known, and the chunk is read anew by the way that finds the refusal, `crn_chunks::read_chunk`. It is lost at every refusal, near the
 // segment's end, where a plane's codes are too long for the bits at hand, and at an index out of range, even where no block uses it.
+#![tactic(auto)]
+
 ghost use Rattle.std.specs.Prelude.{◌≡◌, true, false, ◌+◌, ◌<◌, ◌≤◌, length};
 ghost use Rattle.crn_format.specs.Limits.{too_long, max_entries};
 ghost use Rattle.crn_chunks.specs.Meaning.{Onward, Served, Named, Small, most};
@@ -17,35 +19,35 @@ use crn_utils::limit;
 // Each answer is taken apart by `let .. else`: where a draw brings no symbol the quick way ends at once.
 
 // A symbol or an index, with the cursor after it and the length of its code.
-#[derive(Drop)]
+#[derive(Clone, Copy)]
 pub enum Step {
     Drawn(Cursor, u64, u64),
     Lost,
 }
 
 // An index of each plane, and the length of the last; of one plane the second has no meaning.
-#[derive(Drop)]
+#[derive(Clone, Copy)]
 pub enum Steps {
     Pair(Cursor, u64, u64, u64),
     Lost,
 }
 
 // An encoding, what is pending after it, and the stream.
-#[derive(Drop)]
+#[derive(Clone, Copy)]
 pub enum Code {
     Next(u32, u32, Stream),
     Lost,
 }
 
 // The last indices of a chunk's tiles, then of its positions, and the stream.
-#[derive(Drop)]
+#[derive(Clone, Copy)]
 pub enum Quick {
     Indices(u64, u64, u64, u64, Stream),
     Lost,
 }
 
 // A chunk as read: its encoding, what is carried on, and the stream.
-#[derive(Drop)]
+#[derive(Clone, Copy)]
 enum QuickChunk {
     Chunk(u32, Carried, Stream),
     Lost,
@@ -71,8 +73,8 @@ fn quick_symbol(
     which: usize,
     c: Cursor,
 ) -> Step
-    requires fact_1 { Able lookup.now sorted.now seg.now ps c }
-    requires fact_2 { which < ps.tables }
+    requires able { Able lookup.now sorted.now seg.now ps c }
+    requires which_in { which < ps.tables }
     ensures { QuickFound lookup.now sorted.now seg.now ps which c result }
 {
     let from = which * ps.lookup_step;
@@ -109,10 +111,10 @@ fn quick_index(
     i: u64,
     c: Cursor,
 ) -> Step
-    requires fact_1 { Able lookup.now sorted.now seg.now ps c }
-    requires fact_2 { which < ps.tables }
-    requires fact_3 { size ≤ max_entries }
-    requires fact_4 { i < most }
+    requires able { Able lookup.now sorted.now seg.now ps c }
+    requires which_in { which < ps.tables }
+    requires size_in { size ≤ max_entries }
+    requires i_in { i < most }
     ensures { QuickStepped lookup.now sorted.now seg.now ps which size i c result }
 {
     let Step::Drawn(cursor, delta, length) = quick_symbol(lookup, sorted, seg, ps, which, c) else {
@@ -139,11 +141,11 @@ fn quick_plane(
     c: Cursor,
     out: &mut [u64],
 ) -> Step
-    requires fact_1 { Able lookup.now sorted.now seg.now ps c }
-    requires fact_2 { Named ps p }
-    requires fact_3 { Small p }
-    requires fact_4 { i < most }
-    requires fact_5 { base + n ≤ length out.old }
+    requires able { Able lookup.now sorted.now seg.now ps c }
+    requires named { Named ps p }
+    requires small { Small p }
+    requires i_in { i < most }
+    requires range_in { base + n ≤ length out.old }
     ensures { QuickTiled lookup.now sorted.now seg.now ps p base n i c out.old out.new result }
 {
     let mut at = c;
@@ -182,10 +184,10 @@ fn quick_tiles(
     c: Cursor,
     out: &mut [u64],
 ) -> Steps
-    requires fact_1 { Able lookup.now sorted.now seg.now ps c }
-    requires fact_2 { (e0 < most) × (e1 < most) }
-    requires fact_3 { n ≤ 4 }
-    requires fact_4 { length out.old ≡ 16 }
+    requires able { Able lookup.now sorted.now seg.now ps c }
+    requires encodings_in { (e0 < most) × (e1 < most) }
+    requires n_in { n ≤ 4 }
+    requires out_long { length out.old ≡ 16 }
     ensures { QuickAllTiled lookup.now sorted.now seg.now ps n e0 e1 c out.new result }
 {
     let c0 = refill(seg, c);
@@ -215,9 +217,9 @@ fn quick_pair(
     s1: u64,
     c: Cursor,
 ) -> Steps
-    requires fact_1 { Able lookup.now sorted.now seg.now ps c }
-    requires fact_2 { (s0 < most) × (s1 < most) }
-    requires fact_3 { ps.two ≡ true }
+    requires able { Able lookup.now sorted.now seg.now ps c }
+    requires symbols_in { (s0 < most) × (s1 < most) }
+    requires two_planes { ps.two ≡ true }
     ensures { QuickPicks lookup.now sorted.now seg.now ps s0 s1 c result }
 {
     let p = ps.first;
@@ -244,10 +246,10 @@ fn pair_positions(
     c: Cursor,
     out: &mut [u64],
 ) -> Steps
-    requires fact_1 { Able lookup.now sorted.now seg.now ps c }
-    requires fact_2 { (s0 < most) × (s1 < most) }
-    requires fact_3 { length out.old ≡ 16 }
-    requires fact_4 { ps.two ≡ true }
+    requires able { Able lookup.now sorted.now seg.now ps c }
+    requires symbols_in { (s0 < most) × (s1 < most) }
+    requires out_long { length out.old ≡ 16 }
+    requires two_planes { ps.two ≡ true }
     ensures { QuickAllPicked lookup.now sorted.now seg.now ps s0 s1 c out.old out.new result }
 {
     let mut at = c;
@@ -282,10 +284,10 @@ fn single_positions(
     c: Cursor,
     out: &mut [u64],
 ) -> Steps
-    requires fact_1 { Able lookup.now sorted.now seg.now ps c }
-    requires fact_2 { (s0 < most) × (s1 < most) }
-    requires fact_3 { length out.old ≡ 16 }
-    requires fact_4 { ps.two ≡ false }
+    requires able { Able lookup.now sorted.now seg.now ps c }
+    requires symbols_in { (s0 < most) × (s1 < most) }
+    requires out_long { length out.old ≡ 16 }
+    requires one_plane { ps.two ≡ false }
     ensures { QuickAllPicked lookup.now sorted.now seg.now ps s0 s1 c out.old out.new result }
 {
     let p = ps.first;
@@ -358,11 +360,11 @@ fn quick_chunk(
     s: Stream,
     out: &mut [u64],
 ) -> Quick
-    requires fact_1 { length seg.now < too_long }
-    requires fact_2 { Served ps lookup.now sorted.now }
-    requires fact_3 { Onward seg.now r s }
-    requires fact_4 { (n ≤ 4) × (16 ≤ s.left) }
-    requires fact_5 { length out.old ≡ 16 }
+    requires seg_long { length seg.now < too_long }
+    requires served { Served ps lookup.now sorted.now }
+    requires onward { Onward seg.now r s }
+    requires enough_left { (n ≤ 4) × (16 ≤ s.left) }
+    requires out_long { length out.old ≡ 16 }
     ensures { QuickRead lookup.now sorted.now seg.now ps n r s out.new result }
 {
     let c = s.cursor;
@@ -393,8 +395,8 @@ fn quick_code(
     pending: u32,
     s: Stream,
 ) -> Code
-    requires fact_1 { Ready lookup.now sorted.now seg.now ps s }
-    requires fact_2 { 0 < s.left }
+    requires ready { Ready lookup.now sorted.now seg.now ps s }
+    requires some_left { 0 < s.left }
     ensures { QuickEncodes lookup.now sorted.now seg.now ps pending s result }
 {
     if 64 <= pending {
@@ -429,9 +431,9 @@ fn quick_read(
     s: Stream,
     out: &mut [u64; 16],
 ) -> QuickChunk
-    requires fact_1 { length seg.now < too_long }
-    requires fact_2 { Served ps lookup.now sorted.now }
-    requires fact_3 { Onward seg.now r s }
+    requires seg_long { length seg.now < too_long }
+    requires served { Served ps lookup.now sorted.now }
+    requires onward { Onward seg.now r s }
     ensures { QuickReads lookup.now sorted.now seg.now ps r s out.new result }
 {
     if s.left < 17 {
@@ -467,9 +469,9 @@ pub fn read_chunk(
     s: Stream,
     out: &mut [u64; 16],
 ) -> Chunked
-    requires fact_1 { length seg.now < too_long }
-    requires fact_2 { Served ps lookup.now sorted.now }
-    requires fact_3 { Onward seg.now r s }
+    requires seg_long { length seg.now < too_long }
+    requires served { Served ps lookup.now sorted.now }
+    requires onward { Onward seg.now r s }
     ensures { Reads lookup.now sorted.now seg.now ps right bottom r s out.new result }
 {
     let QuickChunk::Chunk(encoding, next, after) = quick_read(lookup, sorted, seg, ps, r, s, out)

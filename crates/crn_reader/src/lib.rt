@@ -1,5 +1,7 @@
 // The bit reader "keeps the segment it reads and its place" (document 01, Codes). Each function over it takes it apart and leaves
 // the work to crn_symbol_codec's function on the segment and the cursor, since what holds a reference is proved by hand.
+#![tactic(auto)]
+
 ghost use Rattle.std.specs.Prelude.{◌≡◌, List, ℕ, ◌<◌, ◌≤◌, length};
 ghost use Rattle.crn_format.specs.Limits.{too_long};
 ghost use Rattle.crn_format.specs.Reading.{a_symbol, a_number, start, run, from_bits};
@@ -11,7 +13,7 @@ ghost use Rattle.crn_reader.specs.Pairs.{pair, step_of, pair_of};
 
 use crn_symbol_codec::{Cursor, Taken};
 
-#[derive(Drop)]
+#[derive(Clone, Copy)]
 pub struct Reader<'a> {
     pub seg: &'a [u8],
     pub cursor: Cursor,
@@ -66,7 +68,7 @@ pub fn draw<'l, 's, 'r, 'a>(lookup: &'l [u32], sorted: &'s [u16], r: &'r mut Rea
 }
 
 // A number and a symbol, with the place after them; or the refusal, 7 or 8, with the bit that it names.
-#[derive(Drop)]
+#[derive(Clone, Copy)]
 pub enum Pair {
     Both(u32, u32, usize),
     Failed(u32, usize),

@@ -1,4 +1,6 @@
 // The segments that opening reads (refusal 4), and the lent palettes that it fills (refusal 5).
+#![tactic(auto)]
+
 ghost use Rattle.std.specs.Prelude.{◌≡◌};
 ghost use Rattle.crn_format.specs.Opening.{of_plane, stands, part_stands, segments_stand, room_for};
 ghost use Rattle.crn_formats.specs.Lent.{lent_of};

@@ -1,5 +1,7 @@
 // Selectors: sixteen running values, of which each symbol changes two (document 01, Palettes). `alpha` says which of the two palettes it is.
 // A pair of values stands in the two halves of a byte, so that a symbol takes one sum and one look for how the pair is written.
+#![tactic(auto)]
+
 ghost use Rattle.std.specs.Prelude.{◌≡◌, List, ℕ, ◌+◌, ◌*◌, ◌^◌, ◌<◌, ◌≤◌, length};
 ghost use Rattle.std.proofs.lemmas.List.Edits.{sets};
 ghost use Rattle.crn_format.specs.Limits.{too_long, max_entries};
@@ -18,7 +20,7 @@ use crn_symbol_codec::{Cursor, Taken, draw_ready, place, refusal, start};
 
 // An entry: refusal 0, its sixteen values as written, and the cursor after it; or the refusal, and the cursor at the bit that it names. The
 // cursor is here part by part: a struct in a struct is copied by pieces that are wider than those it was stored by, and waits for them.
-#[derive(Drop)]
+#[derive(Clone, Copy)]
 struct Word {
     refusal: u32,
     word: u64,
@@ -41,8 +43,8 @@ fn pairs(alpha: bool) -> u32
 
 // What a symbol adds to two values, raised so that it is not negative: for alpha by the constant table.
 fn deltas(alpha: bool, kept: &[u8], symbol: u32) -> Deltas
-    requires fact_1 { symbol < pairs_of alpha }
-    requires fact_2 { Kept alpha kept.now }
+    requires symbol_in { symbol < pairs_of alpha }
+    requires kept { Kept alpha kept.now }
     ensures { DeltasOf alpha symbol result }
 {
     if alpha {
@@ -56,8 +58,8 @@ fn deltas(alpha: bool, kept: &[u8], symbol: u32) -> Deltas
 
 // What it adds to a pair.
 fn pair_delta(alpha: bool, kept: &[u8], symbol: u32) -> u8
-    requires fact_1 { symbol < pairs_of alpha }
-    requires fact_2 { Kept alpha kept.now }
+    requires symbol_in { symbol < pairs_of alpha }
+    requires kept { Kept alpha kept.now }
     ensures { PairDelta alpha symbol result }
 {
     let by = deltas(alpha, kept, symbol);
@@ -69,8 +71,8 @@ fn pair_delta(alpha: bool, kept: &[u8], symbol: u32) -> u8
 
 // A pair changed by a delta.
 fn moved(alpha: bool, pair: u8, delta: u8) -> u8
-    requires fact_1 { Halves alpha pair }
-    requires fact_2 { Halves alpha delta }
+    requires halves { Halves alpha pair }
+    requires delta_halves { Halves alpha delta }
     ensures { PairMoved alpha pair delta result }
 {
     let sum = wide(pair) + wide(delta);
@@ -154,11 +156,11 @@ fn next_word(
     next0: usize,
     states: &mut [u8; 8],
 ) -> Word
-    requires fact_1 { Holds seg.now (cursor_at bits0 have0 next0) }
-    requires fact_2 { SomeCode lookup.now sorted.now }
-    requires fact_3 { DeltaTable alpha deltas.now }
-    requires fact_4 { WordTable alpha words.now }
-    requires fact_5 { Pairs alpha states.old }
+    requires holds { Holds seg.now (cursor_at bits0 have0 next0) }
+    requires some_code { SomeCode lookup.now sorted.now }
+    requires delta_table { DeltaTable alpha deltas.now }
+    requires word_table { WordTable alpha words.now }
+    requires pairs { Pairs alpha states.old }
     ensures { NextWord alpha lookup.now sorted.now seg.now (cursor_at bits0 have0 next0) states.old states.new result }
 {
     let width = pair_bits(alpha);
@@ -226,10 +228,10 @@ fn color_words(
     count: usize,
     out: &mut [u32],
 ) -> Ended
-    requires fact_1 { Holds seg.now c }
-    requires fact_2 { length seg.now < too_long }
-    requires fact_3 { SomeCode lookup.now sorted.now }
-    requires fact_4 { count ≤ length out.old }
+    requires holds { Holds seg.now c }
+    requires seg_long { length seg.now < too_long }
+    requires some_code { SomeCode lookup.now sorted.now }
+    requires count_in { count ≤ length out.old }
     ensures { (t : List ℕ) → Decodes t lookup.now sorted.now → FillsFrom seg.now c (color_entries t count) out.old out.new result }
 {
     let deltas = delta_table(false, b"");
@@ -277,10 +279,10 @@ fn alpha_words(
     count: usize,
     out: &mut [u16],
 ) -> Ended
-    requires fact_1 { Holds seg.now c }
-    requires fact_2 { length seg.now < too_long }
-    requires fact_3 { SomeCode lookup.now sorted.now }
-    requires fact_4 { 3 * count ≤ length out.old }
+    requires holds { Holds seg.now c }
+    requires seg_long { length seg.now < too_long }
+    requires some_code { SomeCode lookup.now sorted.now }
+    requires room { 3 * count ≤ length out.old }
     ensures { (t : List ℕ) → Decodes t lookup.now sorted.now → FillsFrom seg.now c (alpha_entries t count) out.old out.new result }
 {
     let kept = crn_consts::alpha_delta_pairs();

@@ -1,4 +1,6 @@
 // A draw and a number for the loops over many of them.
+#![tactic(auto)]
+
 ghost use Rattle.std.specs.Prelude.{◌≡◌, List, ℕ, ◌≤◌};
 ghost use Rattle.crn_format.specs.Reading.{a_symbol, a_number};
 ghost use Rattle.crn_symbol_codec.specs.Cursors.{place, Holds};
@@ -30,8 +32,8 @@ pub fn ready(seg: &[u8], c: Cursor) -> Cursor
 // A symbol, as `crn_symbol_codec::draw` answers. It is looked up where the cursor is ready and the code short enough; else the cursor is
 // handed on part by part, so that a loop need not keep it in memory.
 pub fn draw(lookup: &[u32], sorted: &[u16], seg: &[u8], c: Cursor) -> Taken
-    requires fact_1 { Holds seg.now c }
-    requires fact_2 { Usable lookup.now sorted.now }
+    requires holds { Holds seg.now c }
+    requires usable { Usable lookup.now sorted.now }
     ensures { (ls : List ℕ) → Decodes ls lookup.now sorted.now → Takes seg.now (a_symbol ls) c result }
 {
     if c.have < 16 {
@@ -77,8 +79,8 @@ pub fn draw(lookup: &[u32], sorted: &[u16], seg: &[u8], c: Cursor) -> Taken
 
 // A number of n bits, as `crn_symbol_codec::number` answers.
 pub fn number(seg: &[u8], c: Cursor, n: u64) -> Taken
-    requires fact_1 { Holds seg.now c }
-    requires fact_2 { n ≤ 16 }
+    requires holds { Holds seg.now c }
+    requires n_in { n ≤ 16 }
     ensures { Takes seg.now (a_number n) c result }
 {
     if c.have < 16 {

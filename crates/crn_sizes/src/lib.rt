@@ -1,4 +1,6 @@
 // The sizes of a level whose rows and faces stand close together, of any handed header.
+#![tactic(auto)]
+
 ghost use Rattle.std.specs.Prelude.{◌≡◌, ◌/◌};
 ghost use Rattle.crn_sizes.specs.Sizes.{close, sizes_of, no_sizes, level_sizes};
 
@@ -9,7 +11,7 @@ use crn_grid::{columns_of, rows_of};
 
 // Refusal 2 or 10 with zeros; or 0 with a level's blocks, the least pitch, distance and destination for them, and the full symbol allowance.
 #[repr(C)]
-#[derive(Drop)]
+#[derive(Clone, Copy)]
 pub struct LevelSizes {
     pub refusal: u32,
     pub columns: usize,

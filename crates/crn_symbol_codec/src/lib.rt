@@ -1,4 +1,6 @@
 // Bits and symbols of a segment: a cursor by value beside the segment's slice.
+#![tactic(auto)]
+
 ghost use Rattle.std.specs.Prelude.{◌≡◌, List, ℕ, ◌+◌, ◌*◌, ◌<◌, ◌≤◌, length, get_or};
 ghost use Rattle.crn_format.specs.Limits.{too_long};
 ghost use Rattle.crn_format.specs.Reading.{a_symbol, a_number};
@@ -9,7 +11,7 @@ ghost use Rattle.crn_symbol_codec.specs.Decoders.{Usable, Decodes, short_in, fou
 use crn_bytes::{eight_bytes, last_bytes};
 
 // The next `have` bits, at the top of `bits`, and the byte after them. Below them stand bits of the segment or 0.
-#[derive(Drop)]
+#[derive(Clone, Copy)]
 pub struct Cursor {
     pub bits: u64,
     pub have: u64,
@@ -17,7 +19,7 @@ pub struct Cursor {
 }
 
 // A symbol or a number, with the cursor after it; or the refusal, 7 or 8.
-#[derive(Drop)]
+#[derive(Clone, Copy)]
 pub enum Taken {
     Value(u32, Cursor),
     Failed(u32),
@@ -54,8 +56,8 @@ pub fn place(seg: &[u8], c: Cursor) -> usize
 
 // A refill where fewer than eight bytes are left.
 fn refill_last(seg: &[u8], c: Cursor) -> Cursor
-    requires fact_1 { Holds seg.now c }
-    requires fact_2 { length seg.now < c.next + 8 }
+    requires holds { Holds seg.now c }
+    requires few_left { length seg.now < c.next + 8 }
     ensures { Filled seg.now c result }
 {
     let n = c.next;
@@ -108,9 +110,9 @@ fn skip(c: Cursor, l: u64) -> Cursor
 
 // A number, from a cursor that has 16 bits or all that are left.
 fn number_ready(seg: &[u8], c: Cursor, n: u64) -> Taken
-    requires fact_1 { Holds seg.now c }
-    requires fact_2 { Enough seg.now c 16 }
-    requires fact_3 { n ≤ 16 }
+    requires holds { Holds seg.now c }
+    requires enough { Enough seg.now c 16 }
+    requires n_in { n ≤ 16 }
     ensures { Takes seg.now (a_number n) c result }
 {
     if c.have < n {
@@ -122,8 +124,8 @@ fn number_ready(seg: &[u8], c: Cursor, n: u64) -> Taken
 
 // A number of n bits. Bits that are missing are never made up: refusal 8.
 pub fn number(seg: &[u8], c: Cursor, n: u64) -> Taken
-    requires fact_1 { Holds seg.now c }
-    requires fact_2 { n ≤ 16 }
+    requires holds { Holds seg.now c }
+    requires n_in { n ≤ 16 }
     ensures { Takes seg.now (a_number n) c result }
 {
     if c.have < 16 {
@@ -144,8 +146,8 @@ fn symbol(sorted: &[u16], i: usize) -> u32
 
 // The code that the bits begin with, by the lengths that are not looked up.
 fn long_entry(lookup: &[u32], sorted: &[u16], bits: u64) -> u32
-    requires fact_1 { Usable lookup.now sorted.now }
-    requires fact_2 { short_in lookup.now sorted.now bits ≡ 0 }
+    requires usable { Usable lookup.now sorted.now }
+    requires not_short { short_in lookup.now sorted.now bits ≡ 0 }
     ensures { result ≡ found_in lookup.now sorted.now bits }
 {
     let longest = lookup[1] as u64;
@@ -186,9 +188,9 @@ pub fn entry(lookup: &[u32], sorted: &[u16], bits: u64) -> u32
 // A symbol, from a cursor that has 16 bits or all that are left. Where no code begins them, or one that is longer than what is left,
 // the segment may have ended within it.
 pub fn draw_ready(lookup: &[u32], sorted: &[u16], seg: &[u8], c: Cursor) -> Taken
-    requires fact_1 { Holds seg.now c }
-    requires fact_2 { Enough seg.now c 16 }
-    requires fact_3 { Usable lookup.now sorted.now }
+    requires holds { Holds seg.now c }
+    requires enough { Enough seg.now c 16 }
+    requires usable { Usable lookup.now sorted.now }
     ensures { ((ls : List ℕ) → Decodes ls lookup.now sorted.now → Takes seg.now (a_symbol ls) c result) × Near c result }
 {
     let e = entry(lookup, sorted, c.bits);
@@ -207,8 +209,8 @@ pub fn draw_ready(lookup: &[u32], sorted: &[u16], seg: &[u8], c: Cursor) -> Take
 
 // A symbol. Bits that are missing are never made up: 8 where the segment ends first, 7 where its bits begin no code.
 pub fn draw(lookup: &[u32], sorted: &[u16], seg: &[u8], c: Cursor) -> Taken
-    requires fact_1 { Holds seg.now c }
-    requires fact_2 { Usable lookup.now sorted.now }
+    requires holds { Holds seg.now c }
+    requires usable { Usable lookup.now sorted.now }
     ensures { (ls : List ℕ) → Decodes ls lookup.now sorted.now → Takes seg.now (a_symbol ls) c result }
 {
     if c.have < 16 {

@@ -1,4 +1,6 @@
 // Receives code tables and draws symbols, case by case from standard input, and writes a line for each operation. README.md has the format.
+#![tactic(auto)]
+
 ghost use Rattle.std.specs.Prelude.{◌≡◌, ◌+◌, ◌*◌, ◌<◌, ◌≤◌, length};
 ghost use Rattle.crn_format.specs.Limits.{max_symbols, too_long};
 ghost use Rattle.crn_symbol_codec.specs.Cursors.{Holds};
@@ -9,7 +11,7 @@ use crn_symbol_codec::{Cursor, Taken};
 use libc::{STDIN_FILENO, STDOUT_FILENO};
 
 // What an operation leaves: whether the case goes on, from which cursor, and with which table.
-#[derive(Drop)]
+#[derive(Clone, Copy)]
 struct State {
     going: bool,
     cursor: Cursor,
@@ -17,7 +19,7 @@ struct State {
 }
 
 // Symbols drawn: how many, their hash, the cursor after them, and the refusal that ended them, or 0.
-#[derive(Drop)]
+#[derive(Clone, Copy)]
 struct Drawn {
     refusal: u32,
     count: u64,
@@ -56,8 +58,8 @@ fn hash_of(bytes: &[u8]) -> u64 {
 // ---- the operations
 
 fn number(seg: &[u8], s: State, n: u32) -> State
-    requires fact_1 { Holds seg.now s.cursor }
-    requires fact_2 { length seg.now < too_long }
+    requires holds { Holds seg.now s.cursor }
+    requires seg_long { length seg.now < too_long }
     ensures { Holds seg.now result.cursor }
 {
     let c = s.cursor;
@@ -97,8 +99,8 @@ fn number(seg: &[u8], s: State, n: u32) -> State
 }
 
 fn table(seg: &[u8], c: Cursor) -> State
-    requires fact_1 { Holds seg.now c }
-    requires fact_2 { length seg.now < too_long }
+    requires holds { Holds seg.now c }
+    requires seg_long { length seg.now < too_long }
     ensures { Holds seg.now result.cursor }
 {
     let mut t = Table {
@@ -155,8 +157,8 @@ fn hash_of_lengths(t: Table) -> u64 {
 
 // The lengths are there for the contract alone.
 fn many(lengths: &[u8], lookup: &[u32], sorted: &[u16], seg: &[u8], from: Cursor, n: u32) -> Drawn
-    requires fact_1 { Holds seg.now from }
-    requires fact_2 { Decodes lengths.now lookup.now sorted.now }
+    requires holds { Holds seg.now from }
+    requires decodes { Decodes lengths.now lookup.now sorted.now }
     ensures { Holds seg.now result.cursor }
 {
     let mut c = from;
@@ -190,8 +192,8 @@ fn many(lengths: &[u8], lookup: &[u32], sorted: &[u16], seg: &[u8], from: Cursor
 
 // From the code of these lengths, or from no code at all.
 fn from_code(lengths: &[u8], seg: &[u8], c: Cursor, n: u32) -> Drawn
-    requires fact_1 { Holds seg.now c }
-    requires fact_2 { length lengths.now ≤ max_symbols }
+    requires holds { Holds seg.now c }
+    requires lengths_long { length lengths.now ≤ max_symbols }
     ensures { Holds seg.now result.cursor }
 {
     let mut lookup = [0u32; 8224];
@@ -206,8 +208,8 @@ fn from_code(lengths: &[u8], seg: &[u8], c: Cursor, n: u32) -> Drawn
 }
 
 fn draws(seg: &[u8], s: State, n: u32) -> State
-    requires fact_1 { Holds seg.now s.cursor }
-    requires fact_2 { length seg.now < too_long }
+    requires holds { Holds seg.now s.cursor }
+    requires seg_long { length seg.now < too_long }
     ensures { Holds seg.now result.cursor }
 {
     let c = s.cursor;

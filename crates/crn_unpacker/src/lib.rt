@@ -1,4 +1,6 @@
 // A level's chunks, row by row and face by face, into a lent destination.
+#![tactic(auto)]
+
 ghost use Rattle.std.specs.Prelude.{◌<◌, length};
 ghost use Rattle.crn_format.specs.Grid.{chunk_count};
 ghost use Rattle.crn_symbol_codec.specs.Cursors.{Holds};
@@ -11,7 +13,7 @@ use crn_format::Grid;
 mod rows;
 
 // How going over chunks ended: what is carried on, or the refusal.
-#[derive(Drop)]
+#[derive(Clone, Copy)]
 pub enum Went {
     On(Carried, Stream),
     Stopped(Stop),
@@ -31,8 +33,8 @@ pub fn paint(
     g: Grid,
     s: Stream,
 ) -> Went
-    requires fact_1 { Fit (given lookup.now sorted.now seg.now cends.now csels.now aends.now asels.now ps g) (length dst.old) }
-    requires fact_2 { Holds seg.now s.cursor }
+    requires fit { Fit (given lookup.now sorted.now seg.now cends.now csels.now aends.now asels.now ps g) (length dst.old) }
+    requires holds { Holds seg.now s.cursor }
     ensures { Goes (given lookup.now sorted.now seg.now cends.now csels.now aends.now asels.now ps g) 0 (chunk_count g) none s dst.old dst.new result }
 {
     let mut out = [0u64; 16];

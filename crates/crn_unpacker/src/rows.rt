@@ -32,9 +32,9 @@ fn chunk(
     cx: usize,
     cy: usize,
 ) -> Went
-    requires fact_1 { Fit (given lookup.now sorted.now seg.now cends.now csels.now aends.now asels.now ps g) (length dst.old) }
-    requires fact_2 { Onward seg.now r s }
-    requires fact_3 { Covered g face cx cy }
+    requires fit { Fit (given lookup.now sorted.now seg.now cends.now csels.now aends.now asels.now ps g) (length dst.old) }
+    requires onward { Onward seg.now r s }
+    requires covered { Covered g face cx cy }
     ensures { Goes (given lookup.now sorted.now seg.now cends.now csels.now aends.now asels.now ps g) (chunk_number g face cx cy) (chunk_number g face cx cy + 1) r s dst.old dst.new result }
 {
     let columns = g.columns;
@@ -83,9 +83,9 @@ fn row(
     cy: usize,
     turned: bool,
 ) -> Went
-    requires fact_1 { Fit (given lookup.now sorted.now seg.now cends.now csels.now aends.now asels.now ps g) (length dst.old) }
-    requires fact_2 { Onward seg.now r s }
-    requires fact_3 { (face < g.faces) × (cy < chunk_rows g) × (turned ≡ eqb (cy % 2) 1) }
+    requires fit { Fit (given lookup.now sorted.now seg.now cends.now csels.now aends.now asels.now ps g) (length dst.old) }
+    requires onward { Onward seg.now r s }
+    requires row_in { (face < g.faces) × (cy < chunk_rows g) × (turned ≡ eqb (cy % 2) 1) }
     ensures { Goes (given lookup.now sorted.now seg.now cends.now csels.now aends.now asels.now ps g) (row_start g face cy) (row_start g face (cy + 1)) r s dst.old dst.new result }
 {
     let columns = g.columns;
@@ -238,10 +238,10 @@ pub fn face_rows(
     s: Stream,
     face: usize,
 ) -> Went
-    requires fact_1 { Fit (given lookup.now sorted.now seg.now cends.now csels.now aends.now asels.now ps g)
+    requires fit { Fit (given lookup.now sorted.now seg.now cends.now csels.now aends.now asels.now ps g)
         (length dst.old) }
-    requires fact_2 { Onward seg.now r s }
-    requires fact_3 { face < g.faces }
+    requires onward { Onward seg.now r s }
+    requires face_in { face < g.faces }
     ensures { Goes (given lookup.now sorted.now seg.now cends.now csels.now
         aends.now asels.now ps g) (row_start g face 0) (row_start g face (chunk_rows g)) r s
         dst.old dst.new result }

@@ -1,4 +1,6 @@
 // Steps that every part of the unpacker takes: a running index brought back into range, and words of several bytes.
+#![tactic(auto)]
+
 ghost use Rattle.std.specs.Prelude.{◌≡◌, ◌<◌, get_or};
 ghost use Rattle.crn_format.specs.Level.{limited};
 ghost use Rattle.crn_format.specs.Header.{field};

@@ -1,5 +1,7 @@
 // The public entry (the Rust's crunch.rs): a file opened, in one call or by a look and a load, and a level unpacked, with the record whole
 // or by its parts; all its levels in one call; and all of them as a DDS file. None asks anything of its caller.
+#![tactic(auto)]
+
 mod whole; // the record whole
 
 pub use crn_decomp::{look, look_at};

@@ -13,7 +13,7 @@ use crn_levels::Several;
 
 // Refusal 0 with the symbols drawn and the cut-outs; or the refusal, the bit that it names and the symbols drawn.
 #[repr(C)]
-#[derive(Drop)]
+#[derive(Clone, Copy)]
 pub struct Answer {
     pub refusal: u32,
     pub at: usize,

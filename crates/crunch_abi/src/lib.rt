@@ -1,5 +1,7 @@
 // The entry for C and Rust: what `rt staticlib` hands out. No function asks anything of its caller; an answer is a number or a flat struct by value.
 // A record is taken and given by its parts, so that its 41,000 bytes are never copied.
+#![tactic(auto)]
+
 ghost use Rattle.std.specs.Prelude.{◌≡◌};
 ghost use Rattle.crn_format.specs.Opening.{opening as «openingOf»};
 ghost use Rattle.crn_formats.specs.Lent.{lent_of};

@@ -8,7 +8,7 @@ use crn_sizes::{LevelSizes, level_sizes};
 
 // How many words the buffer of each palette has to hold.
 #[repr(C)]
-#[derive(Drop)]
+#[derive(Clone, Copy)]
 pub struct PaletteWords {
     pub color_endpoints: usize,
     pub color_selectors: usize,

@@ -45,9 +45,9 @@ fn caps2_of(h: Header) -> u32
 
 // The first bytes of a file.
 pub fn put_header(h: Header, dst: &mut [u8])
-    requires fact_1 { within_limits h ≡ true }
-    requires fact_2 { goes_out h.format ≡ true }
-    requires fact_3 { head_bytes ≤ length dst.old }
+    requires within_limits { within_limits h ≡ true }
+    requires goes_out { goes_out h.format ≡ true }
+    requires room { head_bytes ≤ length dst.old }
     ensures { dst.new ≡ sets dst.old 0 (dds_header (picture_of h)) }
 {
     let linear = level_sizes(h, 0).distance as u32;

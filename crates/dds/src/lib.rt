@@ -1,4 +1,6 @@
 // A DDS file written from an opened one, and how many bytes that takes.
+#![tactic(auto)]
+
 ghost use Rattle.std.specs.Prelude.{◌≡◌, true, ◌+◌, ◌*◌};
 ghost use Rattle.crn_format.specs.Header.{within_limits};
 ghost use Rattle.crn_formats.specs.Lent.{lent_of};
@@ -20,8 +22,8 @@ mod header; // the magic and the header
 
 // Of a header within the limits, whose levels of one face have `chain` bytes.
 fn total_of(h: Header, chain: usize) -> usize
-    requires fact_1 { within_limits h ≡ true }
-    requires fact_2 { chain ≡ «chainOf» (picture_of h) }
+    requires within_limits { within_limits h ≡ true }
+    requires chain_same { chain ≡ «chainOf» (picture_of h) }
     ensures { result ≡ head_bytes + h.faces * chain }
 {
     128 + h.faces as usize * chain

@@ -1,4 +1,6 @@
 // Many draws, for the benchmark in bench/.
+#![tactic(auto)]
+
 ghost use Rattle.std.specs.Prelude.{◌≡◌};
 ghost use Rattle.crn_symbol_codec.specs.Decoders.{Decodes};
 ghost use Rattle.draw_bench.specs.Tally.{total as «total_of», sum_of_draws as «sum_of_draws»};

@@ -1,4 +1,6 @@
 // FNV-1a with 64 bits, by which the programs say what a buffer holds.
+#![tactic(auto)]
+
 ghost use Rattle.std.specs.Prelude.{◌≡◌};
 ghost use Rattle.fnv.specs.Hash.{stepped};
 

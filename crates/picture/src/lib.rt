@@ -1,4 +1,6 @@
 // What containers of blocks have in common: a picture's surfaces, where they stand, and how a writing ends.
+#![tactic(auto)]
+
 mod sizes; // which formats go out, and how many bytes a face has
 mod put; // bytes and words, written
 
@@ -6,7 +8,7 @@ pub use put::{put_bytes, put_words};
 pub use sizes::{chain_bytes, goes_out};
 
 // A picture in blocks: the format by its CRN number, the sides in pixels, the levels, the faces.
-#[derive(Drop)]
+#[derive(Clone, Copy)]
 pub struct Picture {
     pub format: u32,
     pub width: u32,
@@ -18,7 +20,7 @@ pub struct Picture {
 // How a writing ended: refusal 0 with the bytes written and the symbols and cut-outs of all levels; or the refusal, the level and the bit
 // that it names, and the symbols drawn.
 #[repr(C)]
-#[derive(Drop)]
+#[derive(Clone, Copy)]
 pub struct Written {
     pub refusal: u32,
     pub level: u32,
@@ -30,7 +32,7 @@ pub struct Written {
 
 // How many bytes a file takes, or the refusal of its header.
 #[repr(C)]
-#[derive(Drop)]
+#[derive(Clone, Copy)]
 pub struct Needed {
     pub refusal: u32,
     pub bytes: usize,

@@ -1,4 +1,6 @@
 // The levels of a file put into a container, each straight into its place, by decoder tables that are made once.
+#![tactic(auto)]
+
 ghost use Rattle.std.specs.Prelude.{◌≡◌, true, ◌+◌, ◌*◌, ◌≤◌, length};
 ghost use Rattle.crn_format.specs.Header.{within_limits};
 ghost use Rattle.crn_format.specs.Opening.{zeros};
@@ -22,7 +24,7 @@ use crn_sizes::level_sizes;
 
 // The symbols and cut-outs of all levels; or the refusal of a level, with its number, the bit that it names, and the symbols drawn until
 // then.
-#[derive(Drop)]
+#[derive(Clone, Copy)]
 pub enum LevelsPut {
     Through {
         symbols: u64,
@@ -87,9 +89,9 @@ fn put_by_face(
     step: usize,
     dst: &mut [u8],
 ) -> LevelsPut
-    requires fact_1 { Tabled h s lookup.now sorted.now }
-    requires fact_2 { step ≡ «chainOf» (picture_of h) }
-    requires fact_3 { head + h.faces * step ≤ length dst.old }
+    requires tabled { Tabled h s lookup.now sorted.now }
+    requires step_same { step ≡ «chainOf» (picture_of h) }
+    requires room { head + h.faces * step ≤ length dst.old }
     ensures { (t : Tables) → Made (record_with h t) s lookup.now sorted.now
         → Puts (put_from h.levels (by_face head (picture_of h)) (record_with h t) file.now
         (lent_of color_endpoints.now color_selectors.now alpha_endpoints.now

@@ -24,8 +24,8 @@ fn side_left(n: usize) -> usize
 
 // A row of a block, of so many columns.
 fn put_stretch(dst: &mut [u8], s: Face, x: usize, y: usize, row: Row, columns: usize)
-    requires fact_1 { Room s (length dst.old) }
-    requires fact_2 { Part s x y columns }
+    requires room { Room s (length dst.old) }
+    requires part { Part s x y columns }
     ensures { Drawn s (in_row (texel_of row)) (stretch s x y) (stretch s x y + 1) dst.old dst.new }
 {
     put_row(dst, y * s.pitch + 4 * x, row, columns);
@@ -33,9 +33,9 @@ fn put_stretch(dst: &mut [u8], s: Face, x: usize, y: usize, row: Row, columns: u
 
 // A block that lies within the face: straight on, so that the compiler takes each texel up only where it is stored.
 fn put_whole(dst: &mut [u8], s: Face, x: usize, y: usize, r: Sixteen)
-    requires fact_1 { Room s (length dst.old) }
-    requires fact_2 { 4 * x + 4 ≤ s.width }
-    requires fact_3 { 4 * y + 4 ≤ s.height }
+    requires room { Room s (length dst.old) }
+    requires x_whole { 4 * x + 4 ≤ s.width }
+    requires y_whole { 4 * y + 4 ≤ s.height }
     ensures { Drawn s (in_block (texel_at r)) (first s x y) (first s x y + 4) dst.old dst.new }
 {
     put_stretch(dst, s, 4 * x, 4 * y, r.a, 4);
@@ -46,8 +46,8 @@ fn put_whole(dst: &mut [u8], s: Face, x: usize, y: usize, r: Sixteen)
 
 // A block at an edge, as far as the face goes.
 fn put_edge(dst: &mut [u8], s: Face, x: usize, y: usize, r: Sixteen)
-    requires fact_1 { Room s (length dst.old) }
-    requires fact_2 { Block s x y }
+    requires room { Room s (length dst.old) }
+    requires block { Block s x y }
     ensures { Drawn s (in_block (texel_at r)) (first s x y) (first s x y + 4) dst.old dst.new }
 {
     let columns = side_left(s.width - 4 * x);
@@ -69,8 +69,8 @@ fn put_edge(dst: &mut [u8], s: Face, x: usize, y: usize, r: Sixteen)
 
 // Whether all of a block's texels are the face's.
 fn lies_within(s: Face, x: usize, y: usize) -> bool
-    requires fact_1 { 4 * x < 2 * max_side }
-    requires fact_2 { 4 * y < 2 * max_side }
+    requires x_in { 4 * x < 2 * max_side }
+    requires y_in { 4 * y < 2 * max_side }
     ensures { result ≡ both (leb (4 * x + 4) s.width) (leb (4 * y + 4) s.height) }
 {
     (4 * x + 4 <= s.width) & (4 * y + 4 <= s.height)
@@ -78,8 +78,8 @@ fn lies_within(s: Face, x: usize, y: usize) -> bool
 
 // The texels of the block in column x and row y of the blocks.
 fn put_block(dst: &mut [u8], s: Face, x: usize, y: usize, r: Sixteen)
-    requires fact_1 { Room s (length dst.old) }
-    requires fact_2 { Block s x y }
+    requires room { Room s (length dst.old) }
+    requires block { Block s x y }
     ensures { Drawn s (in_block (texel_at r)) (first s x y) (first s x y + 4) dst.old dst.new }
 {
     if lies_within(s, x, y) {
@@ -91,9 +91,9 @@ fn put_block(dst: &mut [u8], s: Face, x: usize, y: usize, r: Sixteen)
 
 // A block, a row of blocks, and all of them.
 fn block(format: u32, dst: &mut [u8], blocks: &[u8], s: Face, x: usize, y: usize)
-    requires fact_1 { Room s (length dst.old) }
-    requires fact_2 { Block s x y }
-    requires fact_3 { Given format s (length blocks.now) }
+    requires room { Room s (length dst.old) }
+    requires block { Block s x y }
+    requires given { Given format s (length blocks.now) }
     ensures { Drawn s (rgba (kind_of format) s blocks.now) (first s x y) (first s x y + 4)
         dst.old dst.new }
 {
@@ -102,9 +102,9 @@ fn block(format: u32, dst: &mut [u8], blocks: &[u8], s: Face, x: usize, y: usize
 }
 
 fn line(format: u32, dst: &mut [u8], blocks: &[u8], s: Face, y: usize)
-    requires fact_1 { Room s (length dst.old) }
-    requires fact_2 { y < «blocksOf» s.height }
-    requires fact_3 { Given format s (length blocks.now) }
+    requires room { Room s (length dst.old) }
+    requires y_in { y < «blocksOf» s.height }
+    requires given { Given format s (length blocks.now) }
     ensures { Drawn s (rgba (kind_of format) s blocks.now) (first s 0 y) (first s 0 (y + 1))
         dst.old dst.new }
 {
@@ -117,8 +117,8 @@ fn line(format: u32, dst: &mut [u8], blocks: &[u8], s: Face, y: usize)
 }
 
 pub fn face(format: u32, dst: &mut [u8], blocks: &[u8], s: Face)
-    requires fact_1 { Room s (length dst.old) }
-    requires fact_2 { Given format s (length blocks.now) }
+    requires room { Room s (length dst.old) }
+    requires given { Given format s (length blocks.now) }
     ensures { Drawn s (rgba (kind_of format) s blocks.now) 0 (first s 0 («blocksOf» s.height))
         dst.old dst.new }
 {

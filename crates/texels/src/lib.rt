@@ -1,5 +1,7 @@
 // The texels of a face's blocks, into a lent buffer, with the refusals in their order: 2, 18, 28, 12, each of which leaves the buffer as it
 // was.
+#![tactic(auto)]
+
 ghost use Rattle.std.specs.Prelude.{◌≡◌};
 ghost use Rattle.crn_format.specs.Choice.{both};
 ghost use Rattle.crn_format.specs.Header.{kind_of, known};

@@ -1,5 +1,7 @@
 // The texels of a face's blocks, for C and Rust: a function by itself, so that a change of it does not prove the other exports anew.
 // `rust/archive` puts it into one archive with those of `crunch_abi`.
+#![tactic(auto)]
+
 ghost use Rattle.texels.specs.Answers.{Answered};
 
 use bcn_format::Face;
