@@ -1,0 +1,17 @@
+-- So many of the row's blocks before x are cut-outs, and the block at x starts at `at`.
+use Prim.Native.Nat.{◌-◌, ◌≤◌}
+use mathlib.Core.Path.{◌≡◌, refl, ap, ◌∙◌}
+use mathlib.Core.Logic.{⊎_elim}
+use native.Mathlib.Omega.{arith}
+use lib.ListN.{length}
+use Rattle.crn_format.specs.Grid.{place_of, row_cutouts}
+use Rattle.crn_blocks.specs.Sheet.{In, standing}
+use Rattle.crn_blocks.proofs.Places.{Lies, lies, row_ends}
+use Rattle.crn_blocks.proofs.Counting.{place-first, place-next, one_more, no_more}
+use Rattle.crn_blocks.proofs.cutouts_by.Given as goal
+
+abbrev pub invariant-loop-x : goal.invariant-loop-x
+invariant-loop-x l = ((l.x ≤ l.g.columns) × (l.at ≡ place_of l.g l.face l.x l.y)) × ((l.n ≡ row_cutouts (standing l.g l.dst) l.face l.y l.x) × (l.n ≤ l.x))
+
+abbrev pub decreases-loop-x : goal.decreases-loop-x
+decreases-loop-x l = l.g.columns - l.x

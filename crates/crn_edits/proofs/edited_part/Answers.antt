@@ -1,0 +1,6 @@
+-- A palette's part with one edit made.
+use borrow.Author.Rules.{rules}
+use Rattle.crn_edits.proofs.edited_part.Goals as goal
+
+pub returns : goal.returns
+returns c = cc

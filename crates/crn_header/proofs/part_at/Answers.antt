@@ -1,0 +1,6 @@
+-- A part's offset, size and count.
+use borrow.Author.Rules.{rules}
+use Rattle.crn_header.proofs.part_at.Goals as goal
+
+pub returns : goal.returns
+returns c = cc
