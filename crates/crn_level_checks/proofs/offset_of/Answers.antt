@@ -7,5 +7,5 @@ use Rattle.crn_level_checks.proofs.offset_of.Goals as goal
 
 pub returns : goal.returns
 returns c =
-    let all : length c.args.t1 ≡ 13 = search rules in
-    sym (get_or-eq_default c.args.t1 0 (omega arith))
+    let all : length c.args.offsets ≡ 13 = search rules in
+    sym (get_or-eq_default c.args.offsets 0 (omega arith))

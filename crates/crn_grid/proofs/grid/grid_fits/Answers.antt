@@ -3,7 +3,6 @@ use Rattle.crn_format.specs.Unpacking.{grid_of}
 use Rattle.crn_formats.proofs.Joined.{grouped}
 use Rattle.crn_grid.proofs.grid.grid_fits.Goals as goal
 
--- FIXME no step rows-of-lem from After-rows_of
 pub returns : goal.returns
 unfolding grid_of
 returns c =
@@ -12,5 +11,5 @@ returns c =
       grouped,
       c.row_bytes.ensures a.pitch a.distance,
       c.holds.ensures,
-      c.rows_of_lem.ensures.0 a.pitch a.distance,
+      c.rows_of.ensures.0 a.pitch a.distance,
     )

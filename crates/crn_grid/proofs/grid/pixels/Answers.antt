@@ -22,5 +22,5 @@ returns-else-n-gt0 c =
 pub returns-else-level-lt32 : goal.returns-else-level-lt32
 returns-else-level-lt32 c =
     let a = c.args in
-    let none : a.side / 2 ^ a.level ≡ 0 = div-eq_of_lt (lt_of_lt_of_le c.ranges.side (pow_mono c.if-level-lt32.false)) in
+    let none : a.side / 2 ^ a.level ≡ 0 = div-eq_of_lt (lt_of_lt_of_le c.ranges.side.fits (pow_mono c.if-level-lt32.false)) in
     (simp (eq-eqb (a.side / 2 ^ a.level) 0 none), lit< tt)

@@ -7,39 +7,39 @@ use Rattle.crn_grid.proofs.Reach.{short, by_faces}
 use borrow.Author.Rules.{rules}
 use Rattle.crn_grid.proofs.grid.reaches.Goals as goal
 
--- FIXME no step rows-of-lem from After-rows_of
 pub overflow_sub-n-then-holds-2 : goal.overflow_sub-n-then-holds-2
 overflow_sub-n-then-holds-2 c =
     let a = c.args in
-    let rows = c.rows_of_lem.result in
+    let rows = c.rows_of-rows.result in
     let row = c.row_bytes-row.result in
     leb-true ((rows - 1) * a.pitch) (a.n - row) (sym c.holds.ensures ∙ c.if-holds.true)
 
 pub overflow_mul-rows : goal.overflow_mul-rows
-overflow_mul-rows c = omega (arith, sub_holds c, c.ranges.n)
+overflow_mul-rows c =
+    let a = c.args in
+    let rows = c.rows_of-rows.result in
+    let row = c.row_bytes-row.result in
+    omega (arith, leb-true ((rows - 1) * a.pitch) (a.n - row) (sym c.holds.ensures ∙ c.if-holds.true), c.ranges.n)
 
--- FIXME no step rows-of-lem from After-rows_of; returns-then-holds: whole record of ['Then2']
 pub returns-then-holds : goal.returns-then-holds
 returns-then-holds c =
     let a = c.args in
-    let rows = c.rows_of_lem.ensures.0 a.pitch a.distance in
+    let rows = c.rows_of-rows.ensures.0 a.pitch a.distance in
     let row = c.row_bytes-row.ensures a.pitch a.distance in
     rw c.but_one.ensures at c.holds-then-holds.ensures
-    ∙ by_faces a.h a.level a.pitch a.distance a.n rows row (omega (arith, sub_holds c))
+    ∙ by_faces a.h a.level a.pitch a.distance a.n rows row (omega (arith, leb-true ((c.rows_of-rows.result - 1) * a.pitch) (a.n - c.row_bytes-row.result) (sym c.holds.ensures ∙ c.if-holds.true)))
 
--- FIXME no step rows-of-lem from After-rows_of
 pub returns-else-holds : goal.returns-else-holds
 returns-else-holds c =
     let a = c.args in
-    let rows = c.rows_of_lem in
+    let rows = c.rows_of-rows in
     let row = c.row_bytes-row in
     let few = leb-false ((rows.result - 1) * a.pitch) (a.n - row.result) (sym c.holds.ensures ∙ c.if-holds.false) in
     short a.h a.level a.pitch a.distance a.n (rows.ensures.0 a.pitch a.distance) (row.ensures a.pitch a.distance) (omega arith)
 
--- FIXME no step rows-of-lem from After-rows_of
 pub returns-else-row-n : goal.returns-else-row-n
 returns-else-row-n c =
     let a = c.args in
-    let rows = c.rows_of_lem.ensures.0 a.pitch a.distance in
+    let rows = c.rows_of-rows.ensures.0 a.pitch a.distance in
     let row = c.row_bytes-row.ensures a.pitch a.distance in
     short a.h a.level a.pitch a.distance a.n rows row (omega arith)
