@@ -24,4 +24,4 @@ pub returns-in-Unpaired-positions : goal.returns-in-Unpaired-positions
 returns-in-Unpaired-positions c = reads_unpicked c.args.ps c.args.right c.args.bottom c.args.r c.next_encoding.ensures c.in-Code.is c.tile_count-n.ensures.0 c.all_tiles.ensures c.in-Pair.is c.positions.ensures c.in-Unpaired-positions.is
 
 pub returns-in-Pair-positions : goal.returns-in-Pair-positions
-returns-in-Pair-positions c = reads-chunk c.args.ps c.args.right c.args.bottom c.args.r c.next_encoding.ensures c.in-Code.is c.tile_count-n.ensures.0 c.all_tiles.ensures c.in-Pair.is c.positions.ensures c.in-Pair-positions.is c.tile_count-n.ensures.1 c.positions.auto.1.1.1.1.1.1.1.1.1.0
+returns-in-Pair-positions c = reads-chunk c.args.ps c.args.right c.args.bottom c.args.r c.next_encoding.ensures c.in-Code.is c.tile_count-n.ensures.0 c.all_tiles.ensures c.in-Pair.is c.positions.ensures c.in-Pair-positions.is c.tile_count-n.ensures.1 c.positions.auto.out
