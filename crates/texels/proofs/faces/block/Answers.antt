@@ -1,0 +1,22 @@
+-- The block's sixteen texels, put in their places.
+use native.Mathlib.Omega.{arith}
+use Rattle.crn_format.specs.Header.{kind_of, block_bytes}
+use Rattle.texels.proofs.Drawing.{agreed, block-there, block-agrees, few}
+use borrow.Author.Rules.{rules}
+use Rattle.texels.proofs.faces.block.Goals as goal
+
+pub overflow_mul-y : goal.overflow_mul-y
+overflow_mul-y c = omega (arith, few c.requires.room c.requires.block)
+
+pub overflow_add-y : goal.overflow_add-y
+overflow_add-y c = omega (arith, few c.requires.room c.requires.block)
+
+pub block_texels-r-requires : goal.block_texels-r-requires
+block_texels-r-requires c =
+    record { format_known = c.requires.given.format-known; block_in = block-there c.requires.block (block_bytes (kind_of c.args.format)) c.requires.given.all }
+
+pub returns : goal.returns
+returns c =
+    agreed (λ x' y' at from to. block-agrees c.args.s c.args.x c.args.y
+    c.block_texels-r.ensures x' y' from to)
+    c.put_block.ensures

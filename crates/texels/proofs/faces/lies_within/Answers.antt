@@ -1,0 +1,7 @@
+-- Both sides' tests. Assumes nothing.
+use mathlib.Core.Path.{refl}
+use borrow.Author.Rules.{rules}
+use Rattle.texels.proofs.faces.lies_within.Goals as goal
+
+pub returns : goal.returns
+returns c = refl
