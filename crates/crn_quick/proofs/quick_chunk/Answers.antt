@@ -18,10 +18,9 @@ returns-in_default c = tt
 
 pub quick_positions-requires : goal.quick_positions-requires
 quick_positions-requires c =
-    let t = c.quick_tiles in
-    let held = (when_steps _ t.ensures c.in-Pair.is 0 (each c.args.ps.two c.args.n) 0
+    let held = (when_steps _ c.quick_tiles.ensures c.in-Pair.is 0 (each c.args.ps.two c.args.n) 0
     (omega arith)).tiled.on.0 in
-    let room = t.auto.1.1.1.1.1.1.1.1.0 in (
+    let room = c.quick_tiles.auto.out in (
       record { served = c.requires.served; holds = held },
       ((c.requires.onward.first, c.requires.onward.second), omega (arith, c.requires.out_long, room)),
     )

@@ -7,13 +7,6 @@ use Rattle.crn_chunks.proofs.Encoding.{pending-two, pending-one}
 use Rattle.crn_quick.proofs.Stepping.{when_step, found-code}
 use Rattle.crn_quick.proofs.quick_code.Goals as goal
 
-quick-symbol-requires : tie.Need-quick-symbol-requires
-quick-symbol-requires c
-    κs = (
-      record { served = c.before.before.before.before.before.before.before.requires.0.served; holds = c.filled.ensures.holds },
-      c.before.before.before.before.before.before.before.requires.0.served.some,
-    )
-
 pub returns-then-pending-ge64 : goal.returns-then-pending-ge64
 returns-then-pending-ge64 c =
     record {
@@ -37,6 +30,10 @@ returns-then-pending-ge8 c =
 
 pub filled-d-requires : goal.filled-d-requires
 filled-d-requires c = c.requires.ready.holds
+
+pub quick_symbol-requires : goal.quick_symbol-requires
+quick_symbol-requires c =
+    record { able = record { served = c.requires.ready.served; holds = c.filled-d.ensures.holds }; which_in = c.requires.ready.served.some }
 
 pub returns-in_default : goal.returns-in_default
 returns-in_default c = tt

@@ -51,11 +51,11 @@ overflow_sub-cursor c =
     )
 
 pub overflow_cast-result : goal.overflow_cast-result
-overflow_cast-result c = omega (arith, c.entry-e.type-inv)
+overflow_cast-result c = omega (arith, c.entry-e.type_inv)
 
 pub returns : goal.returns
 returns c =
     found c.args.lookup.now c.args.sorted.now c.args.ps c.args.which
     (λ cs k. in_slices (Decodes (cs c.args.which)) c.args.ps c.args.lookup.now c.args.sorted.now c.args.which (k c.args.which c.requires.which_in))
     (in_slices Usable c.args.ps c.args.lookup.now c.args.sorted.now c.args.which (c.requires.able.served.coded c.args.which c.requires.which_in).usable)
-    c.requires.able.holds c.if-have-lt16.false c.entry-e.ensures c.if-e-eq0.false (omega (arith, c.entry-e.type-inv))
+    c.requires.able.holds c.if-have-lt16.false c.entry-e.ensures c.if-e-eq0.false (omega (arith, c.entry-e.type_inv))

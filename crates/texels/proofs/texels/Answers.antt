@@ -7,18 +7,15 @@ use Rattle.texels.proofs.texels.Goals as goal
 
 pub returns-then-r-ne0 : goal.returns-then-r-ne0
 returns-then-r-ne0 c =
-    let a = c.args in
-    left_alone a.blocks.now a.dst.now c.refusal_of-r.ensures c.if-r-ne0.true
+    left_alone c.args.blocks.now c.args.dst.now c.refusal_of-r.ensures c.if-r-ne0.true
 
 pub face-requires : goal.face-requires
 face-requires c =
-    let a = c.args in
     let none = sym c.refusal_of-r.ensures ∙ c.if-r-ne0.false in
-    let taken = accepted a.format a.s (length a.blocks.now) (length a.dst.now) none in
+    let taken = accepted c.args.format c.args.s (length c.args.blocks.now) (length c.args.dst.now) none in
     record { room = taken.fits; given = taken.there }
 
 pub returns : goal.returns
 returns c =
-    let a = c.args in
-    drawn-there a.blocks.now a.dst.now c.refusal_of-r.ensures
+    drawn-there c.args.blocks.now c.args.dst.now c.refusal_of-r.ensures
     c.if-r-ne0.false c.face.ensures

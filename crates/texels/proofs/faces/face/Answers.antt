@@ -44,5 +44,5 @@ shape_of-dst c = c.loop-y.invariant.1.long
 
 pub returns : goal.returns
 returns c =
-    let l = c.loop-y in let full : l.y ≡ blocks c.args.s.height = omega
-    (arith, l.invariant.0, c.loop-y-test.false) in rw full at l.invariant.1
+    let full : c.loop-y.y ≡ blocks c.args.s.height = omega
+    (arith, c.loop-y.invariant.0, c.loop-y-test.false) in rw full at c.loop-y.invariant.1

@@ -41,5 +41,5 @@ shape_of-dst c = c.loop-x.invariant.1.long
 
 pub returns : goal.returns
 returns c =
-    let l = c.loop-x in line-whole c.args.y _
-    (omega (arith, l.invariant.0, c.loop-x-test.false)) l.invariant.1
+    line-whole c.args.y _
+    (omega (arith, c.loop-x.invariant.0, c.loop-x-test.false)) c.loop-x.invariant.1
