@@ -1,0 +1,6 @@
+-- The refusal of an answer.
+use borrow.Author.Rules.{rules}
+use Rattle.crn_drawing.proofs.drawing.stop_of.Goals as goal
+
+pub returns-in-On : goal.returns-in-On
+returns-in-On c = rw c.in-On.is

@@ -1,0 +1,6 @@
+-- The checks of a level, each by its own function.
+use borrow.Author.Rules.{rules}
+use Rattle.crn_level.proofs.unpacking.refusal.Goals as goal
+
+pub returns : goal.returns
+returns c = cc

@@ -1,0 +1,6 @@
+-- A level, with the record taken apart.
+use borrow.Author.Rules.{rules}
+use Rattle.crn_level.proofs.unpacking.unpack_level.Goals as goal
+
+pub returns : goal.returns
+returns c = c.unpack_level_by.ensures
