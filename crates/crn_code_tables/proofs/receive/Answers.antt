@@ -1,6 +1,5 @@
 -- A table is received; a refusal clears the lent lengths.
 use native.Mathlib.Omega.{arith}
-use borrow.Author.Rules.{rules}
 use Rattle.crn_code_tables.proofs.Telling.{receives, declines}
 use Rattle.crn_code_tables.proofs.receive.Goals as goal
 

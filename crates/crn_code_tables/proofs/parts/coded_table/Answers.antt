@@ -1,7 +1,6 @@
 -- The code of lengths is received, and then the lengths in it.
 use mathlib.Core.Path.{sym, ◌∙◌}
 use native.Mathlib.Omega.{arith}
-use borrow.Author.Tests.{not-true, not-false}
 use borrow.Author.Rules.{rules}
 use Rattle.crn_code_tables.proofs.Telling.{said-got, said-refused, tells_declined, tells_same}
 use Rattle.crn_format.proofs.Kraft.{code_fits}
@@ -18,7 +17,9 @@ pub returns-then-not-is_code : goal.returns-then-not-is_code
 returns-then-not-is_code c =
     let sent = c.sent_lengths-sent.ensures in
     let bad = sym c.is_code.ensures ∙ c.if-not-is_code.true in
-    λ b. tells_declined _ _ _ (coded_bad _ _ _ _ (sent.same b ∙ said-got _ _ _ _ c.if-refusal-ne0.false) bad) (omega arith) c.refused-then-not-is_code.ensures
+    λ b.
+    tells_declined _ _ _ (coded_bad _ _ _ _ (sent.same b ∙ said-got _ _ _ _ c.if-refusal-ne0.false) bad) (omega arith)
+    c.refused-then-not-is_code.ensures
 
 pub build-requires : goal.build-requires
 build-requires c =
@@ -26,7 +27,14 @@ build-requires c =
     record { lengths_len_bound = (search rules, code_fits _ good); most_nonzero = search rules }
 
 pub table_by_runs-requires : goal.table_by_runs-requires
-table_by_runs-requires c = record { holds = search rules; seg_long = search rules; count_in = search rules; some_code = search rules; lengths_zero = c.requires.out_zero }
+table_by_runs-requires c =
+    record {
+      holds = search rules;
+      seg_long = search rules;
+      count_in = search rules;
+      some_code = search rules;
+      lengths_zero = c.requires.out_zero;
+    }
 
 pub returns : goal.returns
 returns c =

@@ -6,19 +6,11 @@ use Rattle.crn_code_tables.proofs.Telling.{tells_declined, tells_same}
 use Rattle.crn_code_tables.proofs.Receiving.{counted-failed, counted_none, counted-many, counted-some}
 use Rattle.crn_code_tables.proofs.parts.counted_table.Goals as goal
 
--- FIXME refused-requires: fields ['holds', 'seg_long']
-pub refused-requires : goal.refused-requires
-refused-requires c = search (rules, taken-holds)
-
 pub returns-in_default : goal.returns-in_default
 returns-in_default c =
     let t = c.number.ensures in
     let e = c.in_default.is in
     λ b. tells_declined _ _ _ (counted-failed _ b t e) (omega arith) c.refused.ensures
-
--- FIXME refused-requires-then-n-eq0: fields ['holds', 'seg_long']
-pub refused-requires-then-n-eq0 : goal.refused-requires-then-n-eq0
-refused-requires-then-n-eq0 c = search (rules, taken-holds)
 
 pub returns-then-n-eq0 : goal.returns-then-n-eq0
 returns-then-n-eq0 c =
@@ -26,17 +18,12 @@ returns-then-n-eq0 c =
     let e = c.in-Value.is in
     λ b. tells_declined _ _ _ (counted_none _ b t e c.if-n-eq0.true) (omega arith) c.refused-then-n-eq0.ensures
 
--- FIXME refused-requires-then-n-gt21: fields ['holds', 'seg_long']
-pub refused-requires-then-n-gt21 : goal.refused-requires-then-n-gt21
-refused-requires-then-n-gt21 c = search (rules, taken-holds)
-
 pub returns-then-n-gt21 : goal.returns-then-n-gt21
 returns-then-n-gt21 c =
     let t = c.number.ensures in
     let e = c.in-Value.is in
     λ b. tells_declined _ _ _ (counted-many _ b t e c.if-n-eq0.false (omega arith)) (omega arith) c.refused-then-n-gt21.ensures
 
--- FIXME coded_table-requires: fields ['holds', 'seg_long', 'count_in', 'out_zero']
 pub coded_table-requires : goal.coded_table-requires
 coded_table-requires c = search (rules, taken-holds)
 

@@ -11,7 +11,9 @@ pub returns-then-s-eq18 : goal.returns-then-s-eq18
 returns-then-s-eq18 c = simp (ne_eqb _ _ c.if-s-eq17.false, eq-eqb _ _ c.if-s-eq18.true) (refl, omega arith, omega arith)
 
 pub returns-then-s-eq19 : goal.returns-then-s-eq19
-returns-then-s-eq19 c = simp (ne_eqb _ _ c.if-s-eq17.false, ne_eqb _ _ c.if-s-eq18.false, eq-eqb _ _ c.if-s-eq19.true) (refl, omega arith, omega arith)
+returns-then-s-eq19 c =
+    simp (ne_eqb _ _ c.if-s-eq17.false, ne_eqb _ _ c.if-s-eq18.false, eq-eqb _ _ c.if-s-eq19.true)
+    (refl, omega arith, omega arith)
 
 pub returns : goal.returns
 returns c = simp (ne_eqb _ _ c.if-s-eq17.false, ne_eqb _ _ c.if-s-eq18.false, ne_eqb _ _ c.if-s-eq19.false) (refl, omega arith, omega arith)

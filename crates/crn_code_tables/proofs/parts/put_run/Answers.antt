@@ -1,8 +1,8 @@
-use Prim.Native.Nat.{ℕ, ◌-◌, ◌≤◌}
+use Prim.Native.Nat.{ℕ}
 use mathlib.Core.Path.{◌≡◌, refl, ap, ◌∙◌}
 use native.Mathlib.Omega.{arith}
 use borrow.Author.Rules.{rules}
-use lib.ListN.{length, replicate, length-set}
+use lib.ListN.{replicate, length-set}
 use lib.Seq.{paste, paste-zero}
 use Rattle.crn_code_tables.proofs.Putting.{run_more}
 use Rattle.crn_code_tables.proofs.parts.put_run.Goals as goal
@@ -11,12 +11,11 @@ pub loop-j-init : goal.loop-j-init
 loop-j-init c = (search rules, paste-zero c.args.lengths.now c.args.at (replicate c.args.count c.args.v), refl)
 
 pub loop-j-preserved : goal.loop-j-preserved
-loop-j-preserved c =
-    (
-      omega arith,
-      run_more c.args.lengths.now c.args.at c.args.count c.args.v c.loop-j.j c.loop-j.lengths (omega arith) c.loop-j-test.true c.loop-j.invariant.1,
-      simp length-set (omega arith),
-    )
+loop-j-preserved c = let l = c.loop-j in (
+  omega arith,
+  run_more c.args.lengths.now c.args.at c.args.count c.args.v l.j l.lengths (omega arith) c.loop-j-test.true l.invariant.1,
+  simp length-set (omega arith),
+)
 
 pub returns : goal.returns
 returns c =

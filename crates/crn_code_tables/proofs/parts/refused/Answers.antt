@@ -1,7 +1,6 @@
 -- A refusal, and the bit that it names.
 use Prim.Native.Nat.{ℕ}
 use mathlib.Core.Path.{ap}
-use borrow.Author.Rules.{rules}
 use Rattle.crn_code_tables.specs.Parts.{declined}
 use Rattle.crn_code_tables.proofs.parts.refused.Goals as goal
 

@@ -8,10 +8,6 @@ use Rattle.crn_code_tables.proofs.Putting.{table_none}
 use Rattle.crn_code_tables.proofs.Receiving.{table-failed, reads_none, table-many, table-some}
 use Rattle.crn_code_tables.proofs.parts.sent_table.Goals as goal
 
--- FIXME refused-requires: fields ['holds', 'seg_long']
-pub refused-requires : goal.refused-requires
-refused-requires c = search (rules, taken-holds)
-
 pub returns-in_default : goal.returns-in_default
 returns-in_default c =
     let t = c.number.ensures in
@@ -29,17 +25,12 @@ returns-then-count-eq0 c =
     tells_accepted _ _ _ (reads_none b t e c.if-count-eq0.true)
     (record { none = refl; after = c.place.ensures; holds = taken-holds t e; there = refl; table = table_none c.requires.out_zero })
 
--- FIXME refused-requires-then-count-gt8192: fields ['holds', 'seg_long']
-pub refused-requires-then-count-gt8192 : goal.refused-requires-then-count-gt8192
-refused-requires-then-count-gt8192 c = search (rules, taken-holds)
-
 pub returns-then-count-gt8192 : goal.returns-then-count-gt8192
 returns-then-count-gt8192 c =
     let t = c.number.ensures in
     let e = c.in-Value.is in
     λ b. tells_declined _ _ _ (table-many b t e c.if-count-eq0.false (omega arith)) (omega arith) c.refused-then-count-gt8192.ensures
 
--- FIXME counted_table-requires: fields ['holds', 'seg_long', 'count_in', 'out_zero']
 pub counted_table-requires : goal.counted_table-requires
 counted_table-requires c = search (rules, taken-holds)
 
