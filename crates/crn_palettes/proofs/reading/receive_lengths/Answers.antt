@@ -14,8 +14,7 @@ use Rattle.crn_code_tables.proofs.Telling.{said-got, said-refused}
 use Rattle.crn_palettes.specs.Reaching.{Lengths}
 use Rattle.crn_palettes.specs.declared.reading.Sent.TheVariants.{Table, Refused}
 use Rattle.crn_palettes.proofs.Fitting.{table_fits, count_fits, whole_long}
-use Rattle.crn_palettes.proofs.reading.receive_lengths.Statement.{statement}
-use Rattle.crn_palettes.proofs.reading.receive_lengths.Tie as tie
+use Rattle.crn_palettes.proofs.reading.receive_lengths.Goals as goal
 
 module _ {seg : List ℕ} {c : Cursor} {x : Received} {ls : List ℕ} (r : Receives seg c x ls) where
   no_lengths : (x.refusal ≡ 0 → ⊥) → Lengths seg c ls (Refused x.refusal x.at)
@@ -45,17 +44,8 @@ module _ {seg : List ℕ} {c : Cursor} {x : Received} {ls : List ℕ} (r : Recei
         held = ap (λ (t : Kept). t.lengths) r.whole;
       }
 
-receive-requires : tie.Need-receive-requires
-receive-requires c κs = search rules
+pub returns-then-number-ne0 : goal.returns-then-number-ne0
+returns-then-number-ne0 c = no_lengths c.receive-received.ensures c.if-number-ne0.true
 
-returns : tie.Need-returns
-returns c = no_lengths c.before.before.receive.ensures c.if1.true
-
-cast-t10 : tie.Need-overflow-cast-t10
-cast-t10 c = search rules
-
-returns-2 : tie.Need-returns-2
-returns-2 c = sent c.before.before.before.receive.ensures c.before.if1.false
-
-pub receive-lengths-spec : {M : Type 1} → statement M
-receive-lengths-spec = tie.close (tie.spec receive-requires returns cast-t10 returns-2)
+pub returns : goal.returns
+returns c = sent c.receive-received.ensures c.if-number-ne0.false

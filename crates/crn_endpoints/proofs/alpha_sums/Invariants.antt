@@ -1,0 +1,19 @@
+-- A symbol is added to each of the two bytes. The invariant: what is left of the sums, run from here, ends as all of them do.
+use Rattle.std.proofs.Common.{ℕ, ◌-◌, List, ap, ◌∙◌, arith, rules}
+use Rattle.crn_format.specs.Reading.{run, from_bits, spot}
+use Rattle.crn_format.specs.Palettes.{summed, alpha_sums}
+use Rattle.crn_symbol_codec.specs.Cursors.{place, Holds}
+use Rattle.crn_symbol_codec.specs.Decoders.{Decodes}
+use Rattle.crn_symbol_codec.specs.declared.Cursor.{Cursor}
+use Rattle.crn_symbol_codec.proofs.Taking.{takes_at}
+use Rattle.crn_symbol_codec.proofs.Serving.{taken-holds}
+use Rattle.crn_symbol_codec.specs.Taking.{refusal_of}
+use Rattle.crn_palettes.proofs.Leaving.{reaches_to, reaches-refused}
+use Rattle.crn_endpoints.proofs.Summing.{Summed, sums_none, sum_more, sum-failed, sums_done, alpha-sum, alpha-ended}
+use Rattle.crn_endpoints.proofs.alpha_sums.Given as goal
+
+abbrev pub invariant-loop-i : goal.invariant-loop-i
+invariant-loop-i l = State l.lookup l.sorted l.seg l.initial.values l.initial.at l.values l.at l.i
+
+abbrev pub decreases-loop-i : goal.decreases-loop-i
+decreases-loop-i l = 2 - l.i

@@ -1,0 +1,20 @@
+-- A symbol is added to each of the six sums. The invariant: what is left of them, run from here, ends as all of them do.
+use Rattle.std.proofs.Common.{ℕ, ◌-◌, List, ap, ◌∙◌, arith, rules}
+use Rattle.crn_format.specs.Reading.{run, from_bits, spot}
+use Rattle.crn_format.specs.Palettes.{summed, color_sums}
+use Rattle.crn_symbol_codec.specs.Cursors.{place, Holds}
+use Rattle.crn_symbol_codec.specs.Decoders.{Decodes}
+use Rattle.crn_symbol_codec.specs.declared.Cursor.{Cursor}
+use Rattle.crn_symbol_codec.proofs.Taking.{takes_at}
+use Rattle.crn_symbol_codec.proofs.Serving.{taken-holds}
+use Rattle.crn_symbol_codec.specs.Taking.{refusal_of}
+use Rattle.crn_endpoints.specs.Endpoints.{Small}
+use Rattle.crn_palettes.proofs.Leaving.{reaches_to, reaches-refused}
+use Rattle.crn_endpoints.proofs.Summing.{Summed, sums_none, sum_more, sum-failed, sums_done, color-sum, color-ended, small-more}
+use Rattle.crn_endpoints.proofs.color_sums.Given as goal
+
+abbrev pub invariant-loop-i : goal.invariant-loop-i
+invariant-loop-i l = State l.lookup5 l.sorted5 l.lookup6 l.sorted6 l.seg l.initial.values l.initial.at l.values l.at l.i
+
+abbrev pub decreases-loop-i : goal.decreases-loop-i
+decreases-loop-i l = 6 - l.i
