@@ -540,8 +540,8 @@ fn look_tells_what_the_header_says() {
         ("f.crn", b"Hx".to_vec()),
     ];
     files.iter().for_each(|(name, file)| std::fs::write(room.join(name), file).unwrap());
-    let limit = "the width, height, levels, faces, format or a palette's size is beyond what a CRN file can have: the header is damaged or \
-        of another edition, or the caller gave a wrong one (width is 5,000, and may be 1 to 4,096)";
+    let limit = "the header is damaged or of another edition: its width, height, levels, faces, format or a palette's size is beyond what \
+        a CRN file can have (width is 5,000, and may be 1 to 4,096)";
     let size = "the header is damaged or the file was cut short: its header size or data size does not fit the file (data_size is 1,005, \
         and may be 0 to 1,004)";
     let asked = format!(
