@@ -274,7 +274,8 @@ impl fmt::Display for Reason {
     fn fmt(&self, f: &mut fmt::Formatter<'_>) -> fmt::Result {
         write!(f, "{} is {}, and ", self.field, grouped(self.value))?;
         match self.field {
-            _ if self.most == u64::MAX => write!(f, "has to be at least {}", grouped(self.least)),
+            // of a call for texels
+            "pitch" | "blocks" | "rgba" => write!(f, "has to be at least {}", grouped(self.least)),
             _ if self.least == self.most => write!(f, "has to be {}", grouped(self.least)),
             "faces" => write!(f, "may be 1 or 6"),
             "format" => write!(f, "may be 0 or 2 to 9"),
