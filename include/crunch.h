@@ -59,8 +59,8 @@ static inline const char *crunch_refusal_sentence(uint32_t refusal)
     case CRUNCH_NOT_CRN:
         return "this is no CRN file: it does not begin with the letters Hx, or is shorter than any CRN file";
     case CRUNCH_LIMIT:
-        return "the width, height, levels, faces, format or a palette's size is beyond what a CRN file can have: the header is damaged or "
-               "of another edition, or the caller gave a wrong one";
+        return "the header is damaged or of another edition: its width, height, levels, faces, format or a palette's size is beyond what a "
+               "CRN file can have";
     case CRUNCH_SIZE:
         return "the header is damaged or the file was cut short: its header size or data size does not fit the file";
     case CRUNCH_SEGMENT:
@@ -80,7 +80,7 @@ static inline const char *crunch_refusal_sentence(uint32_t refusal)
     case CRUNCH_PITCH:
         return "the pitch or the distance is no multiple of 4, or too small for this level";
     case CRUNCH_DESTINATION:
-        return "the memory lent for the blocks or pixels is too short for this level, file or picture";
+        return "the memory lent for the blocks is too short for this level or file";
     case CRUNCH_CHUNK:
         return "the compressed data are damaged: a chunk is laid out in a way that can't be";
     case CRUNCH_INDEX:

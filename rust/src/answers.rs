@@ -130,8 +130,7 @@ impl Level {
 impl fmt::Debug for Level {
     fn fmt(&self, f: &mut fmt::Formatter<'_>) -> fmt::Result {
         let mut shown = f.debug_struct("Level");
-        shown.field("format", &self.format).field("faces", &self.faces).field("width", &self.width()).field("height", &self.height());
-        shown.field("columns", &self.columns).field("rows", &self.rows);
+        shown.field("format", &self.format).field("faces", &self.faces).field("columns", &self.columns).field("rows", &self.rows);
         shown.field("counts", &self.counts).field("bytes", &self.blocks.len()).finish_non_exhaustive()
     }
 }

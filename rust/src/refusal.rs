@@ -52,8 +52,7 @@ const ALL: [(Refusal, &str); 19] = [
     (Refusal::NotCrn, "this is no CRN file: it does not begin with the letters Hx, or is shorter than any CRN file"),
     (
         Refusal::Limit,
-        "the width, height, levels, faces, format or a palette's size is beyond what a CRN file can have: the header is damaged or of \
-         another edition, or the caller gave a wrong one",
+        "the header is damaged or of another edition: its width, height, levels, faces, format or a palette's size is beyond what a CRN file can have",
     ),
     (Refusal::Size, "the header is damaged or the file was cut short: its header size or data size does not fit the file"),
     (Refusal::Segment, "the file was cut short, or its header is damaged: a part of it is empty or would lie past the file's end"),
@@ -64,7 +63,7 @@ const ALL: [(Refusal, &str); 19] = [
     (Refusal::Selector, "the compressed data are damaged: a palette has a selector that can't be"),
     (Refusal::Level, "the file has no level of this number"),
     (Refusal::Pitch, "the pitch or the distance is no multiple of 4, or too small for this level"),
-    (Refusal::Destination, "the memory lent for the blocks or pixels is too short for this level, file or picture"),
+    (Refusal::Destination, "the memory lent for the blocks is too short for this level or file"),
     (Refusal::Chunk, "the compressed data are damaged: a chunk is laid out in a way that can't be"),
     (Refusal::Index, "the compressed data are damaged: a block asks for an entry that its palette does not have"),
     (Refusal::Budget, "the level needs more symbols than it was allowed"),
@@ -275,7 +274,8 @@ impl fmt::Display for Reason {
     fn fmt(&self, f: &mut fmt::Formatter<'_>) -> fmt::Result {
         write!(f, "{} is {}, and ", self.field, grouped(self.value))?;
         match self.field {
-            _ if self.most == u64::MAX => write!(f, "has to be at least {}", grouped(self.least)),
+            // of a call for texels
+            "pitch" | "blocks" | "rgba" => write!(f, "has to be at least {}", grouped(self.least)),
             _ if self.least == self.most => write!(f, "has to be {}", grouped(self.least)),
             "faces" => write!(f, "may be 1 or 6"),
             "format" => write!(f, "may be 0 or 2 to 9"),

@@ -64,6 +64,15 @@ fn functions() -> Vec<String> {
 #[test]
 fn the_archive_has_the_headers_functions_and_no_others() {
     let (status, out, _) = told(Command::new("nm").args(["-g", "--defined-only"]).arg(archive()).output().unwrap());
+    let mut has: Vec<String> = out.lines().filter_map(|line| line.split_once(" T ")).map(|(_, name)| name.to_string()).collect();
+    has.sort();
+    assert_eq!((status, has), (0, functions()));
+}
+
+/// Nor anything else that another object could see.
+#[test]
+fn the_archive_has_nothing_but_functions() {
+    let (status, out, _) = told(Command::new("nm").args(["-g", "--defined-only"]).arg(archive()).output().unwrap());
     // a line for each object; of each symbol its place, its letter and its name
     let mut has: Vec<&str> = out.lines().filter_map(|line| line.split_once(' ')).map(|(_, symbol)| symbol).collect();
     has.sort();
@@ -280,13 +289,12 @@ fn cs_formats_are_the_packages() {
     assert!(spoken.iter().map(|(number, _)| *number).eq([0, 2, 3, 4, 5, 6, 7, 8, 9]));
 }
 
-/// `unpack.cpp` writes a file's blocks, its DDS file and its pixels, as the package has them.
+/// `unpack.cpp` writes a file's blocks and its DDS file, as the package has them.
 #[test]
 fn a_program_of_cpp_writes_what_rust_does() {
     let room = room("unpack-cpp");
     let program = compiled("c++17", &root("rust/tests/unpack.cpp"), &room);
-    let out = ["blocks", "dds", "rgba"].map(|name| room.join(name));
-    let unpack = |file: &Path| told(Command::new(&program).arg(file).args(&out).output().unwrap());
+    let unpack = |file: &Path| told(Command::new(&program).arg(file).args([room.join("blocks"), room.join("dds")]).output().unwrap());
     for name in samples() {
         let file = sample(&name);
         let crn = Crn::open(&file).unwrap();
@@ -298,11 +306,26 @@ fn a_program_of_cpp_writes_what_rust_does() {
         assert_eq!(unpack(&root("samples").join(&name)), (0, asked, String::new()));
         assert!(std::fs::read(room.join("blocks")).unwrap() == levels.iter().flat_map(|level| level.blocks().to_vec()).collect::<Vec<_>>());
         assert!(std::fs::read(room.join("dds")).unwrap() == crn.to_dds().unwrap().bytes, "{name}");
-        let rgba = levels.iter().flat_map(|level| (0..crn.faces() as usize).flat_map(|face| level.rgba(face).unwrap()));
-        assert!(std::fs::read(room.join("rgba")).unwrap() == rgba.collect::<Vec<_>>(), "{name}");
     }
     let (status, out, err) = unpack(&root("README.md"));
     assert!((status, out.as_str()) == (1, "") && err.starts_with("look: refused, 1: this is no CRN file"), "{err}");
+}
+
+/// And its pixels, where it is told where they go.
+#[test]
+fn a_program_of_cpp_writes_the_pixels_that_rust_gets() {
+    let room = room("pixels-cpp");
+    let program = compiled("c++17", &root("rust/tests/unpack.cpp"), &room);
+    for name in samples() {
+        let out = ["blocks", "dds", "rgba"].map(|name| room.join(name));
+        let (status, _, err) = told(Command::new(&program).arg(root("samples").join(&name)).args(&out).output().unwrap());
+        assert_eq!((status, err.as_str()), (0, ""), "{name}");
+        let file = sample(&name);
+        let crn = Crn::open(&file).unwrap();
+        let levels: Vec<_> = (0..crn.levels()).map(|n| crn.unpack_level(n).unwrap()).collect();
+        let rgba = levels.iter().flat_map(|level| (0..crn.faces() as usize).flat_map(|face| level.rgba(face).unwrap()));
+        assert!(std::fs::read(room.join("rgba")).unwrap() == rgba.collect::<Vec<_>>(), "{name}");
+    }
 }
 
 #[test]

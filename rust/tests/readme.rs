@@ -56,16 +56,20 @@ fn the_rust_examples_run_as_they_stand() {
 #[test]
 fn the_c_example_runs_as_it_stands() {
     let room = room("readme-c");
-    let [example] = examples("c");
-    std::fs::write(room.join("example.c"), example).unwrap();
-    let file = sample("dxt5.crn");
-    let rgba = Crn::open(&file).unwrap().unpack_level(0).unwrap().rgba(0).unwrap();
+    let [example, goes_on] = examples("c");
+    std::fs::write(room.join("example.c"), &example).unwrap();
     let line = "DXT5, 48 x 32 pixels, level 0: 1536 bytes, 342 symbols\n";
-    let lines = format!("{line}the first pixel: {} {} {} {}\n", rgba[0], rgba[1], rgba[2], rgba[3]);
-    assert_eq!(c(&room.join("example.c"), &room), (0, lines, String::new()));
+    assert_eq!(c(&room.join("example.c"), &room), (0, line.into(), String::new()));
     // a file that is not there, and one that is no CRN file
     let run = |path: &str| told(Command::new(room.join("program")).arg(path).current_dir(root("")).output().unwrap());
     assert_eq!(run("no.crn"), (1, String::new(), "no.crn: No such file or directory\n".into()));
     let (status, out, _) = run("README.md");
     assert!(status == 1 && out.starts_with("refused, 1: this is no CRN file"), "{out}");
+    // with what it may go on with, before its last line
+    let (before, last) = example.rsplit_once("    return 0;\n").unwrap();
+    std::fs::write(room.join("pixels.c"), format!("{before}{goes_on}    return 0;\n{last}")).unwrap();
+    let file = sample("dxt5.crn");
+    let rgba = Crn::open(&file).unwrap().unpack_level(0).unwrap().rgba(0).unwrap();
+    let lines = format!("{line}the first pixel: {} {} {} {}\n", rgba[0], rgba[1], rgba[2], rgba[3]);
+    assert_eq!(c(&room.join("pixels.c"), &room), (0, lines, String::new()));
 }

@@ -1,4 +1,4 @@
-// unpack CRN BLOCKS DDS RGBA: a CRN file's levels, one by one and all at once, as raw blocks, as a DDS file and as pixels.
+// unpack CRN BLOCKS DDS [RGBA]: a CRN file's levels, one by one and all at once, as raw blocks, as a DDS file and as pixels.
 #include <crunch.h>
 
 #include <algorithm>
@@ -24,7 +24,7 @@ static void write(const char *path, const std::vector<uint8_t> &bytes)
 
 int main(int argc, char **argv)
 {
-    if (argc != 5)
+    if (argc != 4 && argc != 5)
         return 2;
     std::ifstream in(argv[1], std::ios::binary);
     const std::vector<char> chars((std::istreambuf_iterator<char>(in)), std::istreambuf_iterator<char>());
@@ -83,7 +83,8 @@ int main(int argc, char **argv)
     if (!went_through("levels", several.refusal) || all != blocks)
         return 1;
     write(argv[2], blocks);
-    write(argv[4], pixels);
+    if (argc == 5)
+        write(argv[4], pixels);
 
     std::vector<uint8_t> dds(crunch_dds_bytes(header).bytes);
     const crunch_written written = crunch_write_dds_with(&crn[0], file.data(), file.size(), &palettes, dds.data(), dds.size());
