@@ -10,11 +10,7 @@ use Rattle.crn_symbol_codec.specs.Taking.{refusal_of}
 use Rattle.crn_palettes.proofs.Leaving.{reaches_to, reaches-refused}
 use Rattle.crn_endpoints.proofs.Summing.{Summed, sums_none, sum_more, sum-failed, sums_done, alpha-sum, alpha-ended}
 use Rattle.crn_endpoints.proofs.alpha_sums.Goals as goal
-
--- at the cursor `at`, after i of the sums that are read from c on
-record State (lookup sorted seg before : List ℕ) (c : Cursor) (values : List ℕ) (at : Cursor) (i : ℕ) : Type 0 where
-  holds : Holds seg at
-  sums : (t : List ℕ) → Decodes t lookup sorted → (b : ℕ) → Summed seg (alpha_sums t) i values at (run (from_bits seg) (summed (alpha_sums t) 0 before) (spot (place c) b))
+use Rattle.crn_endpoints.proofs.alpha_sums.Invariants.{State}
 
 pub loop-i-init : goal.loop-i-init
 loop-i-init c = record { holds = search rules; sums = λ t d b. sums_none _ _ _ _ b }

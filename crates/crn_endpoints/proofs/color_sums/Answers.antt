@@ -11,13 +11,7 @@ use Rattle.crn_endpoints.specs.Endpoints.{Small}
 use Rattle.crn_palettes.proofs.Leaving.{reaches_to, reaches-refused}
 use Rattle.crn_endpoints.proofs.Summing.{Summed, sums_none, sum_more, sum-failed, sums_done, color-sum, color-ended, small-more}
 use Rattle.crn_endpoints.proofs.color_sums.Goals as goal
-
--- at the cursor `at`, after i of the sums that are read from c on
-record State (lookup5 sorted5 lookup6 sorted6 seg before : List ℕ) (c : Cursor) (values : List ℕ) (at : Cursor) (i : ℕ) : Type 0 where
-  holds : Holds seg at
-  small : Small values
-  sums : (t : List ℕ × List ℕ) → Decodes t.0 lookup5 sorted5 × Decodes t.1 lookup6 sorted6 → (b : ℕ)
-      → Summed seg (color_sums t.0 t.1) i values at (run (from_bits seg) (summed (color_sums t.0 t.1) 0 before) (spot (place c) b))
+use Rattle.crn_endpoints.proofs.color_sums.Invariants.{State}
 
 pub loop-i-init : goal.loop-i-init
 loop-i-init c = record { holds = c.requires.holds; small = c.requires.small; sums = λ t d b. sums_none _ _ _ _ b }

@@ -13,6 +13,13 @@ use Rattle.crn_palettes.proofs.Leaving.{reaches_to, reaches-refused}
 use Rattle.crn_endpoints.proofs.Summing.{Summed, sums_none, sum_more, sum-failed, sums_done, color-sum, color-ended, small-more}
 use Rattle.crn_endpoints.proofs.color_sums.Given as goal
 
+-- at the cursor `at`, after i of the sums that are read from c on
+pub record State (lookup5 sorted5 lookup6 sorted6 seg before : List ℕ) (c : Cursor) (values : List ℕ) (at : Cursor) (i : ℕ) : Type 0 where
+  pub holds : Holds seg at
+  pub small : Small values
+  pub sums : (t : List ℕ × List ℕ) → Decodes t.0 lookup5 sorted5 × Decodes t.1 lookup6 sorted6 → (b : ℕ)
+      → Summed seg (color_sums t.0 t.1) i values at (run (from_bits seg) (summed (color_sums t.0 t.1) 0 before) (spot (place c) b))
+
 abbrev pub invariant-loop-i : goal.invariant-loop-i
 invariant-loop-i l = State l.lookup5 l.sorted5 l.lookup6 l.sorted6 l.seg l.initial.values l.initial.at l.values l.at l.i
 

@@ -1,0 +1,25 @@
+-- The invariant: from how far it has come, the definition goes on to where it goes from the start.
+use Prim.Native.Nat.{◌+◌, ◌*◌, ◌-◌, ◌≤◌}
+use mathlib.Core.Path.{◌≡◌, refl, sym, ap, ◌∙◌}
+use native.Mathlib.Omega.{arith}
+use lib.ListN.{length, length-drop}
+use borrow.Author.Rules.{rules}
+use borrow.Rule.Slice.PartMut.{same_len_mid}
+use Rattle.crn_format.specs.declared.Tables.{Tables}
+use Rattle.crn_formats.specs.Lent.{lent_of}
+use Rattle.crn_drawing.specs.Levels.{record_with, Made}
+use Rattle.crn_drawing.specs.declared.Unpacked.{Unpacked}
+use Rattle.crn_levels.specs.Several.{Far, begun, several_from}
+use Rattle.crn_levels.specs.Answers.{stopped_by}
+use Rattle.crn_sizes.proofs.Counts.{most_cutouts}
+use Rattle.crn_levels.proofs.Steps.{far, at_first, moved, rest-whole, put_whole, went, on, off, from_start, all-through}
+use Rattle.crn_levels.proofs.levels_by.Given as goal
+
+abbrev pub invariant-loop-level : goal.invariant-loop-level
+invariant-loop-level l = (l.first ≤ l.level) × ((l.from ≤ length l.dst) × ((length l.dst ≡ length l.initial.dst) × ((l.budget ≤ l.all) × ((l.cutouts ≤ most_cutouts * (l.level - l.first))
+    × ((t : Tables) → Made (record_with l.h t) l.s l.lookup l.sorted
+    → several_from (l.h.levels - l.level) (record_with l.h t) l.file (lent_of l.color_endpoints l.color_selectors l.alpha_endpoints l.alpha_selectors) (far l.first l.level l.from l.all l.budget l.cutouts) l.dst
+    ≡ several_from (l.h.levels - l.first) (record_with l.h t) l.file (lent_of l.color_endpoints l.color_selectors l.alpha_endpoints l.alpha_selectors) (begun l.first l.all) l.initial.dst)))))
+
+abbrev pub decreases-loop-level : goal.decreases-loop-level
+decreases-loop-level l = l.h.levels - l.level

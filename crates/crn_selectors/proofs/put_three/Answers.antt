@@ -1,0 +1,15 @@
+-- Three stores, the low word first.
+use native.Mathlib.Omega.{arith}
+use native.Mathlib.Numerals.{towards_suc}
+use lib.ListN.{length-set}
+use borrow.Author.Rules.{rules}
+use Rattle.crn_selectors.proofs.put_three.Goals as goal
+
+pub bounds-out-at-2 : goal.bounds-out-at-2
+bounds-out-at-2 c = simp length-set (omega arith)
+
+pub bounds-out-at-3 : goal.bounds-out-at-3
+bounds-out-at-3 c = simp length-set (omega arith)
+
+pub returns : goal.returns
+returns c = simp towards_suc
