@@ -135,8 +135,8 @@ fn draw_with<'a>(
     dst: &mut [u8],
 ) -> Unpacked
     requires checked { Checked (record_by h counts chunk.now color_ends.now color_sels.now alpha_ends.now alpha_sels.now) seg.now (lent_of color_endpoints.now color_selectors.now alpha_endpoints.now alpha_selectors.now) g (length dst.old) }
-    requires all_fair_1 { AllFair counts chunk.now color_ends.now color_sels.now alpha_ends.now alpha_sels.now s.sorted_step }
-    requires all_fair_2 { Able s (length lookup.old) (length sorted.old) }
+    requires all_fair { AllFair counts chunk.now color_ends.now color_sels.now alpha_ends.now alpha_sels.now s.sorted_step }
+    requires able { Able s (length lookup.old) (length sorted.old) }
     ensures { Unpacks (drawn_level (record_by h counts chunk.now color_ends.now color_sels.now alpha_ends.now alpha_sels.now) seg.now (lent_of color_endpoints.now color_selectors.now alpha_endpoints.now alpha_selectors.now) g budget.old dst.old) budget.old budget.new dst.new result }
 {
     make_tables(

@@ -129,22 +129,22 @@ module _ {P : List ℕ → ℕ → Type 0} where
 position-within : {P : List ℕ → ℕ → Type 0} (ps : List Plane) (inside : Bool) (is : List ℕ) (N n : ℕ) → length ps + n ≤ N
     → ((a : List ℕ) (j : ℕ) → n ≤ j → P a j) → Within (plane_selectors ps inside is) N P
 unfolding plane_selectors
-position-within [] inside is N n h k = unfold Within in k [] N (omega arith)
-position-within (p ∷ ps) inside [] N n h k = unfold Within in k [] N (omega arith)
+position-within {P} [] inside is N n h k = unfold Within in k [] N (omega arith)
+position-within {P} (p ∷ ps) inside [] N n h k = unfold Within in k [] N (omega arith)
 position-within {P} (p ∷ ps) inside (i ∷ is) N n h k =
     within-next (selector_index p inside i) (λ j. next (plane_selectors ps inside is) λ more. answer (j ∷ more)) N P
     (selector-within p inside i N (length ps + n) (omega arith) (λ a j l.
-    within-next (plane_selectors ps inside is) (λ more. answer (a ∷ more)) j P (position-within ps inside is j n l (λ more m b. unfold Within in k (a ∷ more) m b))))
+    within-next (plane_selectors ps inside is) (λ more. answer (a ∷ more)) j P (position-within {P = λ x y. Within {A = List ℕ} (answer (a ∷ x)) y P} ps inside is j n l (λ more m b. unfold Within in k (a ∷ more) m b))))
 
 endpoints-within : {P : List (List ℕ) → ℕ → Type 0} (ps : List Plane) (m : ℕ) (is : List ℕ) (N n : ℕ) → m ≤ 4 → 4 * length ps + n ≤ N
     → ((a : List (List ℕ)) (j : ℕ) → n ≤ j → P a j) → Within (plane_endpoints ps m is) N P
 unfolding plane_endpoints
-endpoints-within [] m is N n few h k = unfold Within in k [] N (omega arith)
-endpoints-within (p ∷ ps) m [] N n few h k = unfold Within in k [] N (omega arith)
+endpoints-within {P} [] m is N n few h k = unfold Within in k [] N (omega arith)
+endpoints-within {P} (p ∷ ps) m [] N n few h k = unfold Within in k [] N (omega arith)
 endpoints-within {P} (p ∷ ps) m (i ∷ is) N n few h k =
     within-next (endpoint_indices p m i []) (λ a. next (plane_endpoints ps m is) λ more. answer (a ∷ more)) N P
     (indices-within p m i [] N (4 * length ps + n) (omega arith) (λ a j l.
-    within-next (plane_endpoints ps m is) (λ more. answer (a ∷ more)) j P (endpoints-within ps m is j n few l (λ more q b. unfold Within in k (a ∷ more) q b))))
+    within-next (plane_endpoints ps m is) (λ more. answer (a ∷ more)) j P (endpoints-within {P = λ x y. Within {A = List (List ℕ)} (answer (a ∷ x)) y P} ps m is j n few l (λ more q b. unfold Within in k (a ∷ more) q b))))
 
 module _ {P : List (List ℕ) → ℕ → Type 0} where
   selectors-within : (ps : List Plane) (insides : List Bool) (is : List ℕ) (rows : List (List ℕ)) (N n : ℕ) → length insides * length ps + n ≤ N

@@ -143,10 +143,10 @@ fn levels_in<'a>(
     budget: &mut u64,
     dst: &mut [u8],
 ) -> Several
-    requires h_value_1 { within_limits h ≡ true }
-    requires h_value_2 { tables_hold (tables_by counts chunk.now color_ends.now color_sels.now alpha_ends.now alpha_sels.now) ≡ true }
-    requires all_fair_1 { AllFair counts chunk.now color_ends.now color_sels.now alpha_ends.now alpha_sels.now s.sorted_step }
-    requires all_fair_2 { Able s (length lookup.old) (length sorted.old) }
+    requires within_limits { within_limits h ≡ true }
+    requires tables_hold { tables_hold (tables_by counts chunk.now color_ends.now color_sels.now alpha_ends.now alpha_sels.now) ≡ true }
+    requires all_fair { AllFair counts chunk.now color_ends.now color_sels.now alpha_ends.now alpha_sels.now s.sorted_step }
+    requires able { Able s (length lookup.old) (length sorted.old) }
     ensures { Gives (several_from (h.levels - first) (record_by h counts chunk.now color_ends.now color_sels.now alpha_ends.now alpha_sels.now) file.now (lent_of color_endpoints.now color_selectors.now alpha_endpoints.now alpha_selectors.now) (begun first budget.old) dst.old) budget.new dst.new result }
 {
     make_tables(

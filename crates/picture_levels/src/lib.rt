@@ -161,12 +161,12 @@ fn put_in<'a>(
     chain: usize,
     dst: &mut [u8],
 ) -> LevelsPut
-    requires h_value_1 { within_limits h ≡ true }
-    requires h_value_2 { tables_hold (tables_by counts chunk.now color_ends.now color_sels.now alpha_ends.now alpha_sels.now) ≡ true }
-    requires all_fair_1 { AllFair counts chunk.now color_ends.now color_sels.now alpha_ends.now alpha_sels.now s.sorted_step }
-    requires all_fair_2 { Able s (length lookup.old) (length sorted.old) }
-    requires chain_value_1 { chain ≡ «chainOf» (picture_of h) }
-    requires chain_value_2 { head + h.faces * chain ≤ length dst.old }
+    requires within_limits { within_limits h ≡ true }
+    requires tables_hold { tables_hold (tables_by counts chunk.now color_ends.now color_sels.now alpha_ends.now alpha_sels.now) ≡ true }
+    requires all_fair { AllFair counts chunk.now color_ends.now color_sels.now alpha_ends.now alpha_sels.now s.sorted_step }
+    requires able { Able s (length lookup.old) (length sorted.old) }
+    requires chain_same { chain ≡ «chainOf» (picture_of h) }
+    requires room { head + h.faces * chain ≤ length dst.old }
     ensures { Puts (put_from h.levels (by_face head (picture_of h))
         (record_by h counts chunk.now color_ends.now color_sels.now alpha_ends.now
         alpha_sels.now) file.now
@@ -221,10 +221,10 @@ pub fn put_levels<'a>(
     chain: usize,
     dst: &mut [u8],
 ) -> LevelsPut
-    requires h_value_1 { within_limits h ≡ true }
-    requires h_value_2 { tables_hold (tables_by counts chunk.now color_ends.now color_sels.now alpha_ends.now alpha_sels.now) ≡ true }
-    requires chain_value_1 { chain ≡ «chainOf» (picture_of h) }
-    requires chain_value_2 { head + h.faces * chain ≤ length dst.old }
+    requires within_limits { within_limits h ≡ true }
+    requires tables_hold { tables_hold (tables_by counts chunk.now color_ends.now color_sels.now alpha_ends.now alpha_sels.now) ≡ true }
+    requires chain_same { chain ≡ «chainOf» (picture_of h) }
+    requires room { head + h.faces * chain ≤ length dst.old }
     ensures { Puts (put_from h.levels (by_face head (picture_of h))
         (record_by h counts chunk.now color_ends.now color_sels.now alpha_ends.now
         alpha_sels.now) file.now

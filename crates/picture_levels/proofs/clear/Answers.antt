@@ -1,0 +1,21 @@
+use Prim.Native.Nat.{◌-◌}
+use native.Mathlib.Omega.{arith}
+use lib.ListN.{length, length-set}
+use borrow.Author.Rules.{rules}
+use Rattle.crn_palettes.proofs.Zeroing.{Cleared, cleared-none, cleared_more, cleared-all}
+use Rattle.picture_levels.proofs.clear.Goals as goal
+
+pub loop-i-init : goal.loop-i-init
+loop-i-init c = cleared-none _
+
+pub loop-i-smaller : goal.loop-i-smaller
+loop-i-smaller c = simp length-set (omega arith)
+
+pub loop-i-preserved : goal.loop-i-preserved
+loop-i-preserved c = cleared_more c.loop-i.invariant c.loop-i-test.true
+
+pub shape_of-dst : goal.shape_of-dst
+shape_of-dst c = c.loop-i.invariant.long
+
+pub returns : goal.returns
+returns c = cleared-all c.loop-i.invariant (omega arith)

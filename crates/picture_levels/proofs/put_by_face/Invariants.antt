@@ -1,0 +1,46 @@
+-- The invariant: with the levels so far in their places, the definition goes on to where it goes from the start.
+use Prim.Native.Nat.{ℕ, ◌+◌, ◌*◌, ◌-◌, ◌≤◌, ◌<◌}
+use mathlib.Core.Path.{◌≡◌, refl, sym, ap, ◌∙◌}
+use mathlib.Core.List.{List}
+use native.Mathlib.Omega.{arith}
+use native.Mathlib.Nat.{sub-zero}
+use lib.ListN.{length}
+use borrow.Author.Rules.{rules}
+use borrow.Author.Tests.{lt-ltb}
+use borrow.Rule.Slice.PartMut.{put_mid, same_len_mid}
+use Rattle.crn_format.specs.Opening.{Palettes}
+use Rattle.crn_format.specs.declared.Header.{Header}
+use Rattle.crn_format.specs.declared.Tables.{Tables}
+use Rattle.crn_formats.specs.Lent.{lent_of}
+use Rattle.crn_formats.proofs.Limited.{limited}
+use Rattle.crn_decoders.specs.declared.decoders.Sizes.{Sizes}
+use Rattle.crn_drawing.specs.Levels.{record_with, Made}
+use Rattle.crn_drawing.specs.declared.Unpacked.{Unpacked}
+use Rattle.crn_sizes.proofs.Counts.{most_cutouts, most_symbols, symbols-few}
+use Rattle.crn_levels.proofs.Steps.{rest-whole, put_whole}
+use Rattle.picture.specs.Surfaces.{picture_of, surface, chain_to, by_face}
+use Rattle.picture.specs.Writing.{nothing, put_from}
+use Rattle.picture.proofs.Chains.{chain-none}
+use Rattle.picture.proofs.Bytes.{distance_so, room_for, chain-after}
+use Rattle.picture_levels.specs.Puts.{refused_by}
+use Rattle.picture_levels.proofs.Steps.{on, off, few_cuts, all_in, not_in, none_left}
+use Rattle.picture_levels.proofs.put_by_face.Given as goal
+
+pub record Going (h : Header) (s : Sizes) (lookup sorted file : List ℕ) (p : Palettes) (head : ℕ) (dst₀ dst : List ℕ)
+    (level from symbols cutouts : ℕ) : Type 0 where
+  pub few : level ≤ h.levels
+  pub place : from ≡ head + chain_to (picture_of h) level
+  pub long : length dst ≡ length dst₀
+  pub drawn : symbols ≤ most_symbols * level
+  pub cut : cutouts ≤ most_cutouts * level
+  pub goes : (t : Tables) → Made (record_with h t) s lookup sorted
+      → put_from (h.levels - level) (by_face head (picture_of h)) (record_with h t) file p level
+      (record { symbols = symbols; cutouts = cutouts }) dst
+      ≡ put_from h.levels (by_face head (picture_of h)) (record_with h t) file p 0 nothing dst₀
+
+abbrev pub invariant-loop-level : goal.invariant-loop-level
+invariant-loop-level l = Going l.h l.s l.lookup l.sorted l.file (lent_of l.color_endpoints l.color_selectors l.alpha_endpoints l.alpha_selectors) l.head l.initial.dst l.dst l.level l.from l.symbols
+    l.cutouts
+
+abbrev pub decreases-loop-level : goal.decreases-loop-level
+decreases-loop-level l = l.h.levels - l.level
