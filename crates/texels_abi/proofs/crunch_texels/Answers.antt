@@ -1,0 +1,6 @@
+-- What the callee ensures is what is asked. Assumes nothing.
+use borrow.Author.Rules.{rules}
+use Rattle.texels_abi.proofs.crunch_texels.Goals as goal
+
+pub returns : goal.returns
+returns c = c.texels.ensures
