@@ -18,17 +18,17 @@ use Rattle.crunch_abi.proofs.crunch_dds_bytes.Reads as crunch-dds-bytes
 use Rattle.crunch_abi.proofs.crunch_write_dds_parts.Reads as crunch-write-dds-parts
 use Rattle.crn_laws_results.specs.Settled.{Settled, the_answer, alike, alike₂}
 
-pub goes-out-settled : Settled goes-out.Post the_answer
-goes-out-settled _ _ _ _ _ _ _ p q = alike p q
+pub goes_out-settled : Settled goes-out.Post the_answer
+goes_out-settled _ _ _ _ _ _ _ p q = alike p q
 
-pub chain-bytes-settled : Settled chain-bytes.Post the_answer
-chain-bytes-settled _ _ _ _ _ _ _ p q = alike p q
+pub chain_bytes-settled : Settled chain-bytes.Post the_answer
+chain_bytes-settled _ _ _ _ _ _ _ p q = alike p q
 
-pub put-bytes-settled : Settled put-bytes.Post (λ a r (bytes, (at, (dst, _))). dst.now)
-put-bytes-settled _ _ _ _ _ _ _ p q = alike p q
+pub put_bytes-settled : Settled put-bytes.Post (λ a r (bytes, (at, (dst, _))). dst.now)
+put_bytes-settled _ _ _ _ _ _ _ p q = alike p q
 
-pub put_words_settled : Settled put-words.Post (λ a r (ws, (at, (dst, _))). dst.now)
-put_words_settled _ _ _ _ _ _ _ p q = alike p q
+pub put_words-settled : Settled put-words.Post (λ a r (ws, (at, (dst, _))). dst.now)
+put_words-settled _ _ _ _ _ _ _ p q = alike p q
 
 puts_settled : (w : Put) (before : List ℕ) {d e : List ℕ} {r s : LevelsPut} → Puts w before d r → Puts w before e s
     → ◌≡◌ {A = LevelsPut × List ℕ} (r, d) (s, e)
@@ -36,9 +36,9 @@ unfolding Puts
 puts_settled (put t x) before p q = alike₂ p.0 q.0 p.1 q.1
 puts_settled (stopped t) before p q = alike₂ p.0 q.0 p.1 q.1
 
-pub put-levels-settled : Settled {X = LevelsPut × List ℕ} put-levels.Post
+pub put_levels-settled : Settled {X = LevelsPut × List ℕ} put-levels.Post
     (λ a r (header, (counts, (t₁, (t₂, (t₃, (t₄, (t₅, (bytes, (ce, (cs, (ae, (al, (head, (chain, (dst, _))))))))))))))). (r, dst.now))
-put-levels-settled _ _ _ _ _ _ _ p q = puts_settled _ _ p q
+put_levels-settled _ _ _ _ _ _ _ p q = puts_settled _ _ p q
 
 pub dds_bytes-settled : Settled dds-bytes.Post the_answer
 dds_bytes-settled _ _ _ _ _ _ _ p q = alike p q
@@ -48,13 +48,13 @@ unfolding Writes
 writes_settled (written n t x) p q = alike₂ p.0 q.0 p.1 q.1
 writes_settled (refused t x) p q = alike₂ p.0 q.0 p.1 q.1
 
-pub write_dds_settled : Settled {X = Written × List ℕ} write-dds.Post
+pub write_dds-settled : Settled {X = Written × List ℕ} write-dds.Post
     (λ a r (header, (counts, (t₁, (t₂, (t₃, (t₄, (t₅, (bytes, (ce, (cs, (ae, (al, (dst, _))))))))))))). (r, dst.now))
-write_dds_settled _ _ _ _ _ _ _ p q = writes_settled _ p q
+write_dds-settled _ _ _ _ _ _ _ p q = writes_settled _ p q
 
 pub crunch_dds_bytes-settled : Settled crunch-dds-bytes.Post the_answer
 crunch_dds_bytes-settled _ _ _ _ _ _ _ p q = alike p q
 
-pub crunch_write_dds_parts_settled : Settled {X = Written × List ℕ} crunch-write-dds-parts.Post
+pub crunch_write_dds_parts-settled : Settled {X = Written × List ℕ} crunch-write-dds-parts.Post
     (λ a r (header, (counts, (t₁, (t₂, (t₃, (t₄, (t₅, (bytes, (ce, (cs, (ae, (al, (dst, _))))))))))))). (r, dst.now))
-crunch_write_dds_parts_settled _ _ _ _ _ _ _ p q = writes_settled _ p q
+crunch_write_dds_parts-settled _ _ _ _ _ _ _ p q = writes_settled _ p q

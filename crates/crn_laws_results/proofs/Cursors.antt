@@ -52,16 +52,16 @@ takes-settled {c = c} {r = r} {s = s} p q = took_tells (place c) r s (alike (p.s
 pub number-settled : Settled number.Post (λ a r e. drew r)
 number-settled _ _ _ _ _ _ _ p q = takes-settled p q
 
-pub short-number-settled : Settled short-number.Post (λ a r e. drew r)
-short-number-settled _ _ _ _ _ _ _ p q = takes-settled p q
+pub short_number-settled : Settled short-number.Post (λ a r e. drew r)
+short_number-settled _ _ _ _ _ _ _ p q = takes-settled p q
 
 -- ---- a draw, from a table that is some code's
 
-pub draw-ready-settled : SettledIf (λ (lookup, (sorted, _)) r. SomeCode lookup.now sorted.now) draw-ready.Post (λ a r e. drew r)
-draw-ready-settled _ _ _ _ _ _ _ h _ p q = takes-settled (p.0 h.code h.decodes) (q.0 h.code h.decodes)
+pub draw_ready-settled : SettledIf (λ (lookup, (sorted, _)) r. SomeCode lookup.now sorted.now) draw-ready.Post (λ a r e. drew r)
+draw_ready-settled _ _ _ _ _ _ _ h _ p q = takes-settled (p.0 h.code h.decodes) (q.0 h.code h.decodes)
 
 pub draw-settled : SettledIf (λ (lookup, (sorted, _)) r. SomeCode lookup.now sorted.now) draw.Post (λ a r e. drew r)
 draw-settled _ _ _ _ _ _ _ h _ p q = takes-settled (p h.code h.decodes) (q h.code h.decodes)
 
-pub short-draw-settled : SettledIf (λ (lookup, (sorted, _)) r. SomeCode lookup.now sorted.now) short-draw.Post (λ a r e. drew r)
-short-draw-settled _ _ _ _ _ _ _ h _ p q = takes-settled (p h.code h.decodes) (q h.code h.decodes)
+pub short_draw-settled : SettledIf (λ (lookup, (sorted, _)) r. SomeCode lookup.now sorted.now) short-draw.Post (λ a r e. drew r)
+short_draw-settled _ _ _ _ _ _ _ h _ p q = takes-settled (p h.code h.decodes) (q h.code h.decodes)

@@ -34,10 +34,10 @@ use Rattle.crn_laws_results.specs.Settled.{Settled, SettledIf, alike, alike₂}
 pub open-settled : Settled {X = Opened × Palettes} opening.Post (λ a r (file, (ce, (cs, (ae, (al, _))))). (r, lent_of ce.now cs.now ae.now al.now))
 open-settled _ _ _ _ _ _ _ p q = alike₂ p.answer q.answer p.leaves q.leaves
 
-pub open_into_settled : Settled {X = Opened × Palettes} open-into.Post
+pub open_into-settled : Settled {X = Opened × Palettes} open-into.Post
     (λ a r (file, (ce, (cs, (ae, (al, (t₁, (t₂, (t₃, (t₄, (t₅, _)))))))))).
     (opened_by r t₁.now t₂.now t₃.now t₄.now t₅.now, lent_of ce.now cs.now ae.now al.now))
-open_into_settled _ _ _ _ _ _ _ p q = alike₂ p.answer q.answer p.leaves q.leaves
+open_into-settled _ _ _ _ _ _ _ p q = alike₂ p.answer q.answer p.leaves q.leaves
 
 -- ---- a load
 
@@ -49,20 +49,20 @@ abbrev told_by : OpenedHeader → Lengths → Opened
 told_by r t = opened_by r t.chunk t.color_ends t.color_sels t.alpha_ends t.alpha_sels
 
 -- also where record and file disagree, and the arrays are as they had been
-pub loads_settled : {h : Header} {file : List ℕ} {lent after₁ after₂ : Palettes} {had left₁ left₂ : Lengths} {r s : OpenedHeader}
+pub loads-settled : {h : Header} {file : List ℕ} {lent after₁ after₂ : Palettes} {had left₁ left₂ : Lengths} {r s : OpenedHeader}
     → Loads h file lent after₁ had left₁ r → Loads h file lent after₂ had left₂ s
     → ◌≡◌ {A = Opened × Palettes} (told_by r left₁, after₁) (told_by s left₂, after₂)
-loads_settled {h} {file} {lent} {after₁} {after₂} {had} {left₁} {left₂} {r} {s} p q =
+loads-settled {h} {file} {lent} {after₁} {after₂} {had} {left₁} {left₂} {r} {s} p q =
     λ i. (by (agrees h file) refl i, alike p.leaves q.leaves i)
   where
     by : (b : Bool) → agrees h file ≡ b → told_by r left₁ ≡ told_by s left₂
     by true e = alike (p.alike e) (q.alike e)
     by false e = rw ((p.apart e).0, (p.apart e).1, (q.apart e).0, (q.apart e).1)
 
-pub load_into_settled : Settled {X = Opened × Palettes} load-into.Post
+pub load_into-settled : Settled {X = Opened × Palettes} load-into.Post
     (λ a r (header, (file, (ce, (cs, (ae, (al, (t₁, (t₂, (t₃, (t₄, (t₅, _))))))))))).
     (opened_by r t₁.now t₂.now t₃.now t₄.now t₅.now, lent_of ce.now cs.now ae.now al.now))
-load_into_settled _ _ _ _ _ _ _ p q = loads_settled p q
+load_into-settled _ _ _ _ _ _ _ p q = loads-settled p q
 
 -- ---- a level
 
@@ -85,22 +85,22 @@ unpacks-settled {left₁ = m} {left₂ = n} {d = d} {e = e} {r = r} {s = s} p q 
     λ i. (same.0 i, (left i, same.1 i))
 
 -- by tables that decode some codes
-pub draw-chunks-settled : SettledIf {X = Unpacked × (ℕ × List ℕ)} (λ (format, (ps, (lookup, (sorted, _)))) r. Served ps lookup.now sorted.now) draw-chunks.Post
+pub draw_chunks-settled : SettledIf {X = Unpacked × (ℕ × List ℕ)} (λ (format, (ps, (lookup, (sorted, _)))) r. Served ps lookup.now sorted.now) draw-chunks.Post
     (λ a r (format, (ps, (lookup, (sorted, (seg, (ce, (cs, (ae, (al, (grid, (budget, (dst, _)))))))))))). (r, (budget.now, dst.now)))
-draw-chunks-settled _ _ _ _ _ _ _ some _ p q = unpacks-settled (p some.codes some.coded) (q some.codes some.coded)
+draw_chunks-settled _ _ _ _ _ _ _ some _ p q = unpacks-settled (p some.codes some.coded) (q some.codes some.coded)
 
-pub draw-level-settled : Settled {X = Unpacked × (ℕ × List ℕ)} draw-level.Post
+pub draw_level-settled : Settled {X = Unpacked × (ℕ × List ℕ)} draw-level.Post
     (λ a r (header, (counts, (t₁, (t₂, (t₃, (t₄, (t₅, (seg, (ce, (cs, (ae, (al, (grid, (budget, (dst, _))))))))))))))). (r, (budget.now, dst.now)))
-draw-level-settled _ _ _ _ _ _ _ p q = unpacks-settled p q
+draw_level-settled _ _ _ _ _ _ _ p q = unpacks-settled p q
 
 pub unpack_level-settled : Settled {X = Unpacked × (ℕ × List ℕ)} unpack-level.Post
     (λ a r (file, (bytes, (ce, (cs, (ae, (al, (level, (pitch, (distance, (budget, (dst, _))))))))))). (r, (budget.now, dst.now)))
 unpack_level-settled _ _ _ _ _ _ _ p q = unpacks-settled p q
 
-pub unpack_level_by_settled : Settled {X = Unpacked × (ℕ × List ℕ)} unpack-level-by.Post
+pub unpack_level_by-settled : Settled {X = Unpacked × (ℕ × List ℕ)} unpack-level-by.Post
     (λ a r (header, (counts, (t₁, (t₂, (t₃, (t₄, (t₅, (bytes, (ce, (cs, (ae, (al, (level, (pitch, (distance, (budget, (dst, _))))))))))))))))).
     (r, (budget.now, dst.now)))
-unpack_level_by_settled _ _ _ _ _ _ _ p q = unpacks-settled p q
+unpack_level_by-settled _ _ _ _ _ _ _ p q = unpacks-settled p q
 
 -- by decoder tables of some record
 pub unpack_made-settled : SettledIf {X = Unpacked × (ℕ × List ℕ)} (λ (header, (s, (lookup, (sorted, _)))) r. Tabled header s lookup.now sorted.now) unpack-made.Post
@@ -109,10 +109,10 @@ unpack_made-settled _ _ _ _ _ _ _ some _ p q = unpacks-settled (p some.of some.m
 
 -- ---- several levels
 
-pub gives_settled : {w : Ended} {left₁ left₂ : ℕ} {d e : List ℕ} {r s : Several} → Gives w left₁ d r → Gives w left₂ e s
+pub gives-settled : {w : Ended} {left₁ left₂ : ℕ} {d e : List ℕ} {r s : Several} → Gives w left₁ d r → Gives w left₂ e s
     → ◌≡◌ {A = Several × (ℕ × List ℕ)} (r, (left₁, d)) (s, (left₂, e))
-gives_settled p q = λ i. (alike p.answer q.answer i, alike₂ p.budget q.budget p.leaves q.leaves i)
+gives-settled p q = λ i. (alike p.answer q.answer i, alike₂ p.budget q.budget p.leaves q.leaves i)
 
 pub unpack_levels-settled : Settled {X = Several × (ℕ × List ℕ)} unpack-levels.Post
     (λ a r (header, (counts, (t₁, (t₂, (t₃, (t₄, (t₅, (bytes, (ce, (cs, (ae, (al, (first, (budget, (dst, _))))))))))))))). (r, (budget.now, dst.now)))
-unpack_levels-settled _ _ _ _ _ _ _ p q = gives_settled p q
+unpack_levels-settled _ _ _ _ _ _ _ p q = gives-settled p q

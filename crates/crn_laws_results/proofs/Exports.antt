@@ -20,40 +20,40 @@ use Rattle.crunch_abi.proofs.crunch_unpack_level_parts.Reads as crunch-unpack-le
 use Rattle.crunch_abi.proofs.crunch_unpack_levels_parts.Reads as crunch-unpack-levels-parts
 use Rattle.crunch_abi.proofs.crunch_abi_version.Reads as crunch-abi-version
 use Rattle.crn_laws_results.specs.Settled.{Settled, the_answer, alike, alike₂}
-use Rattle.crn_laws_results.proofs.Entry.{loads_settled, unpacks-settled, gives_settled}
+use Rattle.crn_laws_results.proofs.Entry.{loads-settled, unpacks-settled, gives-settled}
 
 pub crunch_look-settled : Settled crunch-look.Post the_answer
 crunch_look-settled _ _ _ _ _ _ _ p q = alike p q
 
-pub crunch_look-at-settled : Settled crunch-look-at.Post the_answer
-crunch_look-at-settled _ _ _ _ _ _ _ p q = alike p q
+pub crunch_look_at-settled : Settled crunch-look-at.Post the_answer
+crunch_look_at-settled _ _ _ _ _ _ _ p q = alike p q
 
-pub crunch_palette_words_settled : Settled crunch-palette-words.Post the_answer
-crunch_palette_words_settled _ _ _ _ _ _ _ p q = alike p q
+pub crunch_palette_words-settled : Settled crunch-palette-words.Post the_answer
+crunch_palette_words-settled _ _ _ _ _ _ _ p q = alike p q
 
-pub crunch_level-sizes-settled : Settled crunch-level-sizes.Post the_answer
-crunch_level-sizes-settled _ _ _ _ _ _ _ p q = alike p q
+pub crunch_level_sizes-settled : Settled crunch-level-sizes.Post the_answer
+crunch_level_sizes-settled _ _ _ _ _ _ _ p q = alike p q
 
-pub crunch_abi_version_settled : Settled crunch-abi-version.Post the_answer
-crunch_abi_version_settled _ _ _ _ _ _ _ p q = alike p q
+pub crunch_abi_version-settled : Settled crunch-abi-version.Post the_answer
+crunch_abi_version-settled _ _ _ _ _ _ _ p q = alike p q
 
-pub crunch_open_parts_settled : Settled {X = Opened × Palettes} crunch-open-parts.Post
+pub crunch_open_parts-settled : Settled {X = Opened × Palettes} crunch-open-parts.Post
     (λ a r (file, (ce, (cs, (ae, (al, (t₁, (t₂, (t₃, (t₄, (t₅, _)))))))))).
     (opened_by r t₁.now t₂.now t₃.now t₄.now t₅.now, lent_of ce.now cs.now ae.now al.now))
-crunch_open_parts_settled _ _ _ _ _ _ _ p q = alike₂ p.answer q.answer p.leaves q.leaves
+crunch_open_parts-settled _ _ _ _ _ _ _ p q = alike₂ p.answer q.answer p.leaves q.leaves
 
-pub crunch_load_parts_settled : Settled {X = Opened × Palettes} crunch-load-parts.Post
+pub crunch_load_parts-settled : Settled {X = Opened × Palettes} crunch-load-parts.Post
     (λ a r (header, (file, (ce, (cs, (ae, (al, (t₁, (t₂, (t₃, (t₄, (t₅, _))))))))))).
     (opened_by r t₁.now t₂.now t₃.now t₄.now t₅.now, lent_of ce.now cs.now ae.now al.now))
-crunch_load_parts_settled _ _ _ _ _ _ _ p q = loads_settled p q
+crunch_load_parts-settled _ _ _ _ _ _ _ p q = loads-settled p q
 
-pub crunch_unpack_level_parts_settled : Settled {X = Answer × (ℕ × List ℕ)} crunch-unpack-level-parts.Post
+pub crunch_unpack_level_parts-settled : Settled {X = Answer × (ℕ × List ℕ)} crunch-unpack-level-parts.Post
     (λ a r (header, (counts, (t₁, (t₂, (t₃, (t₄, (t₅, (bytes, (ce, (cs, (ae, (al, (level, (pitch, (distance, (budget, (dst, _))))))))))))))))).
     (r, (budget.now, dst.now)))
-crunch_unpack_level_parts_settled _ _ _ _ _ _ _ p q =
+crunch_unpack_level_parts-settled _ _ _ _ _ _ _ p q =
     let same = unpacks-settled p.unpacks q.unpacks in
     λ i. ((p.same ∙ ap (λ (x : Unpacked × (ℕ × List ℕ)). answer_of x.0) same ∙ sym q.same) i, (same i).1)
 
-pub crunch_unpack_levels_parts_settled : Settled {X = Several × (ℕ × List ℕ)} crunch-unpack-levels-parts.Post
+pub crunch_unpack_levels_parts-settled : Settled {X = Several × (ℕ × List ℕ)} crunch-unpack-levels-parts.Post
     (λ a r (header, (counts, (t₁, (t₂, (t₃, (t₄, (t₅, (bytes, (ce, (cs, (ae, (al, (first, (budget, (dst, _))))))))))))))). (r, (budget.now, dst.now)))
-crunch_unpack_levels_parts_settled _ _ _ _ _ _ _ p q = gives_settled p q
+crunch_unpack_levels_parts-settled _ _ _ _ _ _ _ p q = gives-settled p q

@@ -22,8 +22,8 @@ little_tells (suc n) v w h k e =
 abbrev Word : {A : Type 0} → A → ℕ → Type 0
 Word a r = r < 256 ^ 8
 
-pub color-half-settled : SettledIf Word color-half.Post the_answer
-color-half-settled _ _ _ r s _ _ h k p q = little_tells 8 r s h k (alike p q)
+pub color_half-settled : SettledIf Word color-half.Post the_answer
+color_half-settled _ _ _ r s _ _ h k p q = little_tells 8 r s h k (alike p q)
 
-pub alpha-half-settled : SettledIf Word alpha-half.Post the_answer
-alpha-half-settled _ _ _ r s _ _ h k p q = little_tells 8 r s h k (alike p q)
+pub alpha_half-settled : SettledIf Word alpha-half.Post the_answer
+alpha_half-settled _ _ _ r s _ _ h k p q = little_tells 8 r s h k (alike p q)

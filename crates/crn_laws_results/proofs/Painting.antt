@@ -31,13 +31,13 @@ use Rattle.crn_laws_results.specs.Seen.{went, left}
 use Rattle.crn_laws_results.proofs.Steps.{got_or_refused}
 
 -- the chunk and what is carried on from it, with the place after it and the budget that is left; or the refusal
-pub read-chunk-settled : SettledIf (λ (lookup, (sorted, (seg, (ps, _)))) r. Served ps lookup.now sorted.now) read-chunk.Post
+pub read_chunk-settled : SettledIf (λ (lookup, (sorted, (seg, (ps, _)))) r. Served ps lookup.now sorted.now) read-chunk.Post
     (λ (lookup, (sorted, (seg, (ps, _)))) r (_, (_, (_, (_, (_, (_, (_, (_, (out, _))))))))). chunked ps.two out.now r)
-read-chunk-settled _ _ _ _ _ _ _ h _ p q = alike (p.same h.codes h.coded) (q.same h.codes h.coded)
+read_chunk-settled _ _ _ _ _ _ _ h _ p q = alike (p.same h.codes h.coded) (q.same h.codes h.coded)
 
-pub quick_read-chunk-settled : SettledIf (λ (lookup, (sorted, (seg, (ps, _)))) r. Served ps lookup.now sorted.now) quick-read-chunk.Post
+pub quick_read_chunk-settled : SettledIf (λ (lookup, (sorted, (seg, (ps, _)))) r. Served ps lookup.now sorted.now) quick-read-chunk.Post
     (λ (lookup, (sorted, (seg, (ps, _)))) r (_, (_, (_, (_, (_, (_, (_, (_, (out, _))))))))). chunked ps.two out.now r)
-quick_read-chunk-settled _ _ _ _ _ _ _ h _ p q = alike (p.same h.codes h.coded) (q.same h.codes h.coded)
+quick_read_chunk-settled _ _ _ _ _ _ _ h _ p q = alike (p.same h.codes h.coded) (q.same h.codes h.coded)
 
 -- ---- a chunk's blocks
 

@@ -7,7 +7,7 @@ use native.Mathlib.Omega.{arith}
 use lib.ListN.{length, get_or}
 use lib.Seq.{ext_get_or, length-take-le}
 use contract.Lifetimes.{Lfts}
-use denote.Ref.{Bor}
+use Rattle.std.specs.Borrow.{Bor, MutBor}
 use Rattle.crn_consts.specs.declared.Deltas.{Deltas}
 use Rattle.crn_consts.specs.AlphaDeltas.{AllDeltas, alpha_deltas}
 use Rattle.crn_consts.proofs.alpha_delta_pairs.Reads as alpha-delta-pairs
@@ -30,17 +30,17 @@ use Rattle.crn_laws_results.specs.Settled.{Settled, SettledIf, the_answer, alike
 use Rattle.crn_laws_results.specs.Seen.{sent_seen}
 use Rattle.crn_laws_results.proofs.Steps.{got_tells, refused_tells, got_or_refused}
 
-pub color-endpoints-settled : Settled {X = Ended × List ℕ} color-endpoints.Post (λ a r (seg, (count, (out, _))). (r, out.now))
-color-endpoints-settled _ _ _ _ _ _ _ p q = alike₂ p.answer q.answer p.holds q.holds
+pub color_endpoints-settled : Settled {X = Ended × List ℕ} color-endpoints.Post (λ a r (seg, (count, (out, _))). (r, out.now))
+color_endpoints-settled _ _ _ _ _ _ _ p q = alike₂ p.answer q.answer p.holds q.holds
 
-pub color-selectors-settled : Settled {X = Ended × List ℕ} color-selectors.Post (λ a r (seg, (count, (out, _))). (r, out.now))
-color-selectors-settled _ _ _ _ _ _ _ p q = alike₂ p.answer q.answer p.holds q.holds
+pub color_selectors-settled : Settled {X = Ended × List ℕ} color-selectors.Post (λ a r (seg, (count, (out, _))). (r, out.now))
+color_selectors-settled _ _ _ _ _ _ _ p q = alike₂ p.answer q.answer p.holds q.holds
 
-pub alpha-endpoints-settled : Settled {X = Ended × List ℕ} alpha-endpoints.Post (λ a r (seg, (count, (out, _))). (r, out.now))
-alpha-endpoints-settled _ _ _ _ _ _ _ p q = alike₂ p.answer q.answer p.holds q.holds
+pub alpha_endpoints-settled : Settled {X = Ended × List ℕ} alpha-endpoints.Post (λ a r (seg, (count, (out, _))). (r, out.now))
+alpha_endpoints-settled _ _ _ _ _ _ _ p q = alike₂ p.answer q.answer p.holds q.holds
 
-pub alpha-selectors-settled : Settled {X = Ended × List ℕ} alpha-selectors.Post (λ a r (seg, (count, (out, _))). (r, out.now))
-alpha-selectors-settled _ _ _ _ _ _ _ p q = alike₂ p.answer q.answer p.holds q.holds
+pub alpha_selectors-settled : Settled {X = Ended × List ℕ} alpha-selectors.Post (λ a r (seg, (count, (out, _))). (r, out.now))
+alpha_selectors-settled _ _ _ _ _ _ _ p q = alike₂ p.answer q.answer p.holds q.holds
 
 -- ---- selectors by the lists
 
@@ -51,18 +51,18 @@ as_well {before = before} m n e p = record { answer = p.answer ∙ ap answered e
 
 -- what reading a palette takes: a segment, a count of entries, a lent buffer
 abbrev Lent : Type 0
-Lent = Bor (List ℕ) × (ℕ × (Bor (List ℕ) × Unit {0}))
+Lent = Bor (List ℕ) × (ℕ × (MutBor (List ℕ) × Unit {0}))
 
 -- every call that ends as this contract says answers and leaves what the reading gives
 abbrev Filling : (Lfts 2 → Lent → Ended → Lent → Type 0) → (ℕ → Reading (List ℕ)) → Type 0
 Filling post m =
     (κ : Lfts 2) (a : Lent) (r : Ended) (e : Lent) → post κ a r e → Fills a.0.now (m a.1.0) a.1.1.0.now e.1.1.0.now r
 
-pub color-selectors_by_list : Filling color-selectors.Post (selectors 3 (λ vs. listed color_list 2 vs 16 ∷ []))
-color-selectors_by_list κ (seg, (count, _)) r e p = as_well _ _ (color-selectors_listed (from_bits seg.now) count start) p
+pub color_selectors-by_list : Filling color-selectors.Post (selectors 3 (λ vs. listed color_list 2 vs 16 ∷ []))
+color_selectors-by_list κ (seg, (count, _)) r e p = as_well _ _ (color-selectors_listed (from_bits seg.now) count start) p
 
-pub alpha-selectors_by_list : Filling alpha-selectors.Post (selectors 7 (λ vs. three_words (listed alpha_list 3 vs 16)))
-alpha-selectors_by_list κ (seg, (count, _)) r e p = as_well _ _ (alpha-selectors_listed (from_bits seg.now) count start) p
+pub alpha_selectors-by_list : Filling alpha-selectors.Post (selectors 7 (λ vs. three_words (listed alpha_list 3 vs 16)))
+alpha_selectors-by_list κ (seg, (count, _)) r e p = as_well _ _ (alpha-selectors_listed (from_bits seg.now) count start) p
 
 -- ---- a palette's code table: how receiving it ends, and all of the lent array
 
@@ -83,9 +83,9 @@ sent_tells (Refused n x) (Refused m y) p q =
     let both = refused_tells (sym (p.reads 0).same ∙ (q.reads 0).same) in
     λ i. (refused (both.0 i) (both.1 i).at, alike p.held q.held i)
 
-pub receive-lengths-settled : Settled {X = Step ℕ ℕ × List ℕ} receive-lengths.Post
+pub receive_lengths-settled : Settled {X = Step ℕ ℕ × List ℕ} receive-lengths.Post
     (λ a r (seg, (c, (lengths, _))). (sent_seen r, lengths.now))
-receive-lengths-settled _ _ _ r s _ _ p q = sent_tells r s p q
+receive_lengths-settled _ _ _ r s _ _ p q = sent_tells r s p q
 
 pub few-settled : Settled few.Post the_answer
 few-settled _ _ _ _ _ _ _ p q = alike p q

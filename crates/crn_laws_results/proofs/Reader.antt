@@ -38,8 +38,8 @@ step_tells (Both v y p) (Failed n q) e = absurd (got_or_refused e)
 step_tells (Failed n p) (Both v y q) e = absurd (got_or_refused (sym e))
 step_tells (Failed n p) (Failed m q) e = let both = refused_tells e in λ i. Failed (both.0 i) (both.1 i).at
 
-pub read-pair-settled : SettledIf (λ (lookup, (sorted, _)) r. SomeCode lookup.now sorted.now) read-pair.Post the_answer
-read-pair-settled _ _ _ r s _ _ h _ p q = step_tells r s (alike (p h.code h.decodes) (q h.code h.decodes))
+pub read_pair-settled : SettledIf (λ (lookup, (sorted, _)) r. SomeCode lookup.now sorted.now) read-pair.Post the_answer
+read_pair-settled _ _ _ r s _ _ h _ p q = step_tells r s (alike (p h.code h.decodes) (q h.code h.decodes))
 
 -- ---- the functions that hold or lend a reader. The checker makes no `Post` of their contracts, so it is made here, as it makes others':
 -- what whoever shows the `ensures` has to show, by a reading of it that says the same at every model

@@ -68,9 +68,9 @@ decodes-settled {ls} p q x₁ y₁ x₂ y₂ a b c d =
 pub build-settled : DrawsSettled build.Post (λ a. Unit {0}) (λ a (_, (_, (lookup, (sorted, _)))). (lookup.now, sorted.now))
 build-settled _ _ _ _ _ _ p q = decodes-settled p q
 
-pub build_decoder_settled : DrawsSettled build-decoder.Post (λ a. Unit {0})
+pub build_decoder-settled : DrawsSettled build-decoder.Post (λ a. Unit {0})
     (λ a (_, (_, (_, (lookup, (sorted, _))))). (lookup.now, sorted.now))
-build_decoder_settled _ _ _ _ _ _ p q = decodes-settled p q
+build_decoder-settled _ _ _ _ _ _ p q = decodes-settled p q
 
 -- a level's tables: the same of table number k
 module _ (k : ℕ) where

@@ -29,8 +29,8 @@ one_table : (n : ℕ) {r s : List ℕ} (value : ℕ → ℕ) → length r ≡ n 
 one_table n {r} {s} value long long' p q =
     ext_get_or 0 r s (long ∙ sym long') (λ i h. alike (p i (omega (arith, long))) (q i (omega (arith, long))))
 
-pub four-colors-settled : SettledIf (λ a r. length r ≡ 4) four-colors.Post the_answer
-four-colors-settled _ _ _ r s _ _ h k p q = one_table 4 _ h k p.each q.each
+pub four_colors-settled : SettledIf (λ a r. length r ≡ 4) four-colors.Post the_answer
+four_colors-settled _ _ _ r s _ _ h k p q = one_table 4 _ h k p.each q.each
 
 pub palette-settled : SettledIf (λ a r. length r ≡ 4) palette.Post the_answer
 palette-settled _ _ _ r s _ _ h k p q = one_table 4 _ h k p.each q.each
@@ -66,14 +66,14 @@ one_block r s same =
 filled : {f : ℕ → ℕ} (r s : Sixteen) → Filled f r → Filled f s → r ≡ s
 filled r s p q = one_block r s (λ t h. alike (p.each t h) (q.each t h))
 
-pub color_rows_settled : Settled color-rows.Post the_answer
-color_rows_settled _ _ _ r s _ _ p q = filled r s p q
+pub color_rows-settled : Settled color-rows.Post the_answer
+color_rows-settled _ _ _ r s _ _ p q = filled r s p q
 
-pub level_rows_settled : Settled level-rows.Post the_answer
-level_rows_settled _ _ _ r s _ _ p q = filled r s p q
+pub level_rows-settled : Settled level-rows.Post the_answer
+level_rows-settled _ _ _ r s _ _ p q = filled r s p q
 
-pub added_rows_settled : Settled added-rows.Post the_answer
-added_rows_settled _ _ _ r s _ _ p q = filled r s p q
+pub added_rows-settled : Settled added-rows.Post the_answer
+added_rows-settled _ _ _ r s _ _ p q = filled r s p q
 
 -- the numbers of an answer are u64, so that a texel has four bytes
 pub record Wide (r : Sixteen) : Type 0 where
@@ -91,15 +91,15 @@ wide-texel : (r : Sixteen) → Wide r → (t : ℕ) → t < 16 → texel_at r t 
 wide-texel r wide t h =
     four_bytes (row_of r (t / 4)) (wide.left (t / 4) (omega arith)) (wide.right (t / 4) (omega arith)) (t % 4) (omega arith)
 
-pub block-texels-settled : SettledIf (λ a r. Wide r) block-texels.Post the_answer
-block-texels-settled _ _ _ r s _ _ h k p q =
+pub block_texels-settled : SettledIf (λ a r. Wide r) block-texels.Post the_answer
+block_texels-settled _ _ _ r s _ _ h k p q =
     one_block r s
     (λ t l. little_tells 4 (texel_at r t) (texel_at s t) (wide-texel r h t l) (wide-texel s k t l) (alike (p.each t l) (q.each t l)))
 
 -- ---- what is put
 
-pub put-row-settled : Settled put-row.Post (λ a r (dst, _). dst.now)
-put-row-settled _ _ _ _ _ _ _ p q = alike p q
+pub put_row-settled : Settled put-row.Post (λ a r (dst, _). dst.now)
+put_row-settled _ _ _ _ _ _ _ p q = alike p q
 
 pub texels-settled : Settled {X = ℕ × List ℕ} texels.Post (λ a r (format, (face, (blocks, (dst, _)))). (r, dst.now))
 texels-settled _ _ _ _ _ _ _ p q = alike₂ p.number q.number p.left q.left

@@ -91,13 +91,13 @@ eight_low-settled _ _ _ _ _ _ _ p q = alike p q
 pub eight_bytes-settled : Settled eight-bytes.Post the_answer
 eight_bytes-settled _ _ _ _ _ _ _ p q = alike p q
 
-pub last-bytes-settled : Settled last-bytes.Post the_answer
-last-bytes-settled _ _ _ _ _ _ _ p q = alike p q
+pub last_bytes-settled : Settled last-bytes.Post the_answer
+last_bytes-settled _ _ _ _ _ _ _ p q = alike p q
 
 -- ---- crn_consts
 
-pub tile_count_settled : Settled tile-count.Post the_answer
-tile_count_settled _ _ _ _ _ _ _ p q = alike p.0 q.0
+pub tile_count-settled : Settled tile-count.Post the_answer
+tile_count-settled _ _ _ _ _ _ _ p q = alike p.0 q.0
 
 -- two bits, and what stands above them
 by_two-bits : (r s : ℕ) → r % 4 ≡ s % 4 → r / 4 ≡ s / 4 → r ≡ s
@@ -122,14 +122,14 @@ tiles-settled _ _ _ r s _ _ p q =
     pair : (k : ℕ) → k < 4 → tile_in r k ≡ tile_in s k
     pair k four = alike (p.each k four) (q.each k four)
 
-pub from_linear_settled : Settled from-linear.Post the_answer
-from_linear_settled _ _ _ _ _ _ _ p q = alike p q
+pub from_linear-settled : Settled from-linear.Post the_answer
+from_linear-settled _ _ _ _ _ _ _ p q = alike p q
 
-pub length-symbol-settled : Settled length-symbol.Post the_answer
-length-symbol-settled _ _ _ _ _ _ _ p q = alike p.0 q.0
+pub length_symbol-settled : Settled length-symbol.Post the_answer
+length_symbol-settled _ _ _ _ _ _ _ p q = alike p.0 q.0
 
-pub alpha-deltas-settled : Settled alpha-deltas.Post the_answer
-alpha-deltas-settled _ _ _ _ _ _ _ p q = alike p.rule q.rule
+pub alpha_deltas-settled : Settled alpha-deltas.Post the_answer
+alpha_deltas-settled _ _ _ _ _ _ _ p q = alike p.rule q.rule
 
 -- ---- crn_formats
 
@@ -145,31 +145,31 @@ has_color-settled _ _ _ _ _ _ _ p q = alike p q
 pub has_alpha-settled : Settled has-alpha.Post the_answer
 has_alpha-settled _ _ _ _ _ _ _ p q = alike p q
 
-pub is-known-settled : Settled is_Known.Post the_answer
-is-known-settled _ _ _ _ _ _ _ p q = alike p q
+pub is_known-settled : Settled is_Known.Post the_answer
+is_known-settled _ _ _ _ _ _ _ p q = alike p q
 
-pub block-bytes-settled : Settled block-bytes.Post the_answer
-block-bytes-settled _ _ _ _ _ _ _ p q = alike p q
+pub block_bytes-settled : Settled block-bytes.Post the_answer
+block_bytes-settled _ _ _ _ _ _ _ p q = alike p q
 
 -- ---- crn_decomp
 
-pub is-signed-settled : Settled is_Signed.Post the_answer
-is-signed-settled _ _ _ _ _ _ _ p q = alike p q
+pub is_signed-settled : Settled is_Signed.Post the_answer
+is_signed-settled _ _ _ _ _ _ _ p q = alike p q
 
-pub header-of-settled : Settled header_of.Post the_answer
-header-of-settled _ _ _ _ _ _ _ p q = alike p q
+pub header_of-settled : Settled header_of.Post the_answer
+header_of-settled _ _ _ _ _ _ _ p q = alike p q
 
-pub within-limits-settled : Settled within-limits.Post the_answer
-within-limits-settled _ _ _ _ _ _ _ p q = alike p q
+pub within_limits-settled : Settled within-limits.Post the_answer
+within_limits-settled _ _ _ _ _ _ _ p q = alike p q
 
-pub sizes_hold_settled : Settled sizes-hold.Post the_answer
-sizes_hold_settled _ _ _ _ _ _ _ p q = alike p q
+pub sizes_hold-settled : Settled sizes-hold.Post the_answer
+sizes_hold-settled _ _ _ _ _ _ _ p q = alike p q
 
 pub look-settled : Settled look.Post the_answer
 look-settled _ _ _ _ _ _ _ p q = alike p q
 
-pub look-at-settled : Settled look_at.Post the_answer
-look-at-settled _ _ _ _ _ _ _ p q = alike p q
+pub look_at-settled : Settled look_at.Post the_answer
+look_at-settled _ _ _ _ _ _ _ p q = alike p q
 
 pub agrees-settled : Settled agrees.Post the_answer
 agrees-settled _ _ _ _ _ _ _ p q = alike p q
@@ -177,8 +177,8 @@ agrees-settled _ _ _ _ _ _ _ p q = alike p q
 pub segments_stand-settled : Settled segments-stand.Post the_answer
 segments_stand-settled _ _ _ _ _ _ _ p q = alike p q
 
-pub room_for_settled : Settled room_for.Post the_answer
-room_for_settled _ _ _ _ _ _ _ p q = alike p q
+pub room_for-settled : Settled room_for.Post the_answer
+room_for-settled _ _ _ _ _ _ _ p q = alike p q
 
 -- ---- crn_grid
 
@@ -188,23 +188,23 @@ columns_of-settled _ _ _ _ _ _ _ p q = alike (p.0 0 0) (q.0 0 0)
 pub rows_of-settled : Settled rows_of_lem.Post the_answer
 rows_of-settled _ _ _ _ _ _ _ p q = alike (p.0 0 0) (q.0 0 0)
 
-pub grid-fits-settled : Settled grid-fits.Post the_answer
-grid-fits-settled _ _ _ _ _ _ _ p q = alike p q
+pub grid_fits-settled : Settled grid-fits.Post the_answer
+grid_fits-settled _ _ _ _ _ _ _ p q = alike p q
 
 pub reaches-settled : Settled reaches.Post the_answer
 reaches-settled _ _ _ _ _ _ _ p q = alike p q
 
-pub level-start-settled : Settled level-start.Post the_answer
-level-start-settled _ _ _ _ _ _ _ p q = alike p q
+pub level_start-settled : Settled level-start.Post the_answer
+level_start-settled _ _ _ _ _ _ _ p q = alike p q
 
-pub level-end-settled : Settled level-end.Post the_answer
-level-end-settled _ _ _ _ _ _ _ p q = alike p q
+pub level_end-settled : Settled level-end.Post the_answer
+level_end-settled _ _ _ _ _ _ _ p q = alike p q
 
-pub level-stands-settled : Settled level-stands.Post the_answer
-level-stands-settled _ _ _ _ _ _ _ p q = alike p q
+pub level_stands-settled : Settled level-stands.Post the_answer
+level_stands-settled _ _ _ _ _ _ _ p q = alike p q
 
-pub palettes-reach-settled : Settled palettes-reach.Post the_answer
-palettes-reach-settled _ _ _ _ _ _ _ p q = alike p q
+pub palettes_reach-settled : Settled palettes-reach.Post the_answer
+palettes_reach-settled _ _ _ _ _ _ _ p q = alike p q
 
 -- ---- crn_symbol_codec, crn_static_huffman_data_model: those that answer no cursor
 
@@ -217,8 +217,8 @@ place-settled _ _ _ _ _ _ _ p q = alike p q
 pub entry-settled : Settled entry.Post the_answer
 entry-settled _ _ _ _ _ _ _ p q = alike p q
 
-pub is-code-settled : Settled is_code.Post the_answer
-is-code-settled _ _ _ _ _ _ _ p q = alike p q
+pub is_code-settled : Settled is_code.Post the_answer
+is_code-settled _ _ _ _ _ _ _ p q = alike p q
 
 -- ---- crn_palettes, crn_blocks: a byte, lent slices
 
@@ -231,8 +231,8 @@ clear32-settled _ _ _ _ _ _ _ p q = alike p q
 pub clear16-settled : Settled clear16.Post (λ a r e. e.0.now)
 clear16-settled _ _ _ _ _ _ _ p q = alike p q
 
-pub put_eight_settled : Settled put-eight.Post (λ a r e. e.0.now)
-put_eight_settled _ _ _ _ _ _ _ p q = alike p q
+pub put_eight-settled : Settled put-eight.Post (λ a r e. e.0.now)
+put_eight-settled _ _ _ _ _ _ _ p q = alike p q
 
 pub clear-settled : Settled clear.Post (λ a r e. e.0.now)
 clear-settled _ _ _ _ _ _ _ p q = alike p q
@@ -242,19 +242,19 @@ cutouts-settled _ _ _ _ _ _ _ p q = alike p q
 
 -- ---- crn_decoders: those that make no table
 
-pub tables_hold_settled : Settled tables_hold_lem.Post the_answer
-tables_hold_settled _ _ _ _ _ _ _ p q = alike p q
+pub tables_hold-settled : Settled tables_hold_lem.Post the_answer
+tables_hold-settled _ _ _ _ _ _ _ p q = alike p q
 
-pub planes-of-settled : Settled planes-of.Post the_answer
-planes-of-settled _ _ _ _ _ _ _ p q = alike p q
+pub planes_of-settled : Settled planes-of.Post the_answer
+planes_of-settled _ _ _ _ _ _ _ p q = alike p q
 
-pub sizes_for_settled : Settled sizes-for.Post the_answer
-sizes_for_settled _ _ _ _ _ _ _ p q = alike p q
+pub sizes_for-settled : Settled sizes-for.Post the_answer
+sizes_for-settled _ _ _ _ _ _ _ p q = alike p q
 
 -- ---- crn_sizes
 
-pub level-sizes-settled : Settled level-sizes.Post the_answer
-level-sizes-settled _ _ _ _ _ _ _ p q = alike p q
+pub level_sizes-settled : Settled level-sizes.Post the_answer
+level_sizes-settled _ _ _ _ _ _ _ p q = alike p q
 
 -- ---- crn_edits, fnv, draw_bench
 
@@ -264,5 +264,5 @@ edited-settled _ _ _ _ _ _ _ p q = alike p q
 pub step-settled : Settled step.Post the_answer
 step-settled _ _ _ _ _ _ _ p q = alike p q
 
-pub sum-of-draws-settled : Settled sum-of-draws.Post the_answer
-sum-of-draws-settled _ _ _ _ _ _ _ p q = alike p q
+pub sum_of_draws-settled : Settled sum-of-draws.Post the_answer
+sum_of_draws-settled _ _ _ _ _ _ _ p q = alike p q

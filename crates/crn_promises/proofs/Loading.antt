@@ -150,9 +150,9 @@ module _ (c : LoadCall) (s : LoadSame c) where
   load-ready z =
       both_ways (λ y. opens.open-ready asOpening (as_opening y) z) (λ n. absurd (omega (arith, (s.apart n).0, z)))
 
-  pub load_told : LoadTold c
-  load_told w e =
-      both_ways (λ y. opens.open_told asOpening (as_opening y) (rw (agrees_own c.header c.file y) at w) e)
+  pub load-told : LoadTold c
+  load-told w e =
+      both_ways (λ y. opens.open-told asOpening (as_opening y) (rw (agrees_own c.header c.file y) at w) e)
       (λ n. omega (arith, (s.apart n).0, e))
 
   -- one call after the other

@@ -240,8 +240,8 @@ module _ (c : OpenCall) (s : OpenSame c) where
   by_room (opened r kept) b p z = omega (arith, sym (ap (λ (x : Opened). x.refusal) p) ∙ z)
   by_room (shut n bit kept) b p z = b refl (sym (ap (λ (x : Opened). x.refusal) p) ∙ z)
 
-  pub open_told : OpenTold c
-  open_told w =
+  pub open-told : OpenTold c
+  open-told w =
       by_room (opening c.file c.lent)
       (rw (palettes_fit (header_of c.file) c.lent w.color_ends w.color_sels w.alpha_ends w.alpha_sels) at
       (opening-kept c.file c.lent)) s.answer

@@ -195,8 +195,8 @@ module _ (c : TexelsCall) (same : TexelsSame c) (z : c.answer ≡ 0) {x y : ℕ}
       by_order e 3 (omega arith)
       ∙ covered_by (ltb w v) (λ f. ⊎_elim (λ lt. lt) (λ ge. absurd (not-cut (ltb-false w v f, omega (arith, ge)))) (below_or i 3))
 
-pub texels_modes : (c : TexelsCall) → TexelsSame c → TexelsModes c
-texels_modes c same =
+pub texels-modes : (c : TexelsCall) → TexelsSame c → TexelsModes c
+texels-modes c same =
     record {
       bc3 = λ z e x y k at h. four_colours c same z at e k h;
       clear = λ z e x y k at h cut. cut_out c same z at e k h cut;

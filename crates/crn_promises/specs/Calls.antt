@@ -3,7 +3,7 @@
 -- a level, one every function that unpacks several, one every function that writes a DDS file, one every function that gives texels: those
 -- with the record whole, those with the record by its parts, and those that C and Rust call.
 use Rattle.std.specs.Prelude.{ℕ, ◌+◌, List, []}
-use Rattle.std.specs.Borrow.{Bor}
+use Rattle.std.specs.Borrow.{Bor, MutBor}
 use Rattle.crn_format.specs.Opening.{Palettes, Lengths}
 use Rattle.crn_format.specs.Unpacking.{Unpacking, unpacked, declined}
 use Rattle.crn_format.specs.declared.Header.{Header}
@@ -121,33 +121,37 @@ pub record TexelsCall : Type 0 where
   pub after : List ℕ
   pub answer : ℕ
 
--- ---- the functions' parameters: `now` is what a lent slice or number holds, at entry or at exit
+-- ---- the functions' parameters: `now` is what a slice or number holds, at entry or at exit
+
+-- a slice that is shown, and one that is lent to be written
+abbrev Shown : Type 0
+Shown = Bor (List ℕ)
 
 abbrev Lent : Type 0
-Lent = Bor (List ℕ)
+Lent = MutBor (List ℕ)
 
 abbrev OpenGiven : Type 0
-OpenGiven = Lent × (Lent × (Lent × (Lent × (Lent × Unit {0}))))
+OpenGiven = Shown × (Lent × (Lent × (Lent × (Lent × Unit {0}))))
 
 abbrev OpenIntoGiven : Type 0
-OpenIntoGiven = Lent × (Lent × (Lent × (Lent × (Lent × (Lent × (Lent × (Lent × (Lent × (Lent × Unit {0})))))))))
+OpenIntoGiven = Shown × (Lent × (Lent × (Lent × (Lent × (Lent × (Lent × (Lent × (Lent × (Lent × Unit {0})))))))))
 
 abbrev WholeGiven : Type 0
-WholeGiven = Record × (Lent × (Lent × (Lent × (Lent × (Lent × (ℕ × (ℕ × (ℕ × (Bor ℕ × (Lent × Unit {0}))))))))))
+WholeGiven = Record × (Shown × (Shown × (Shown × (Shown × (Shown × (ℕ × (ℕ × (ℕ × (MutBor ℕ × (Lent × Unit {0}))))))))))
 
 abbrev PartsGiven : Type 0
 PartsGiven =
-    Header × (Counts × (Lent × (Lent × (Lent × (Lent × (Lent ×
-    (Lent × (Lent × (Lent × (Lent × (Lent × (ℕ × (ℕ × (ℕ × (Bor ℕ × (Lent × Unit {0}))))))))))))))))
+    Header × (Counts × (Shown × (Shown × (Shown × (Shown × (Shown ×
+    (Shown × (Shown × (Shown × (Shown × (Shown × (ℕ × (ℕ × (ℕ × (MutBor ℕ × (Lent × Unit {0}))))))))))))))))
 
 abbrev SeveralGiven : Type 0
 SeveralGiven =
-    Header × (Counts × (Lent × (Lent × (Lent × (Lent × (Lent ×
-    (Lent × (Lent × (Lent × (Lent × (Lent × (ℕ × (Bor ℕ × (Lent × Unit {0}))))))))))))))
+    Header × (Counts × (Shown × (Shown × (Shown × (Shown × (Shown ×
+    (Shown × (Shown × (Shown × (Shown × (Shown × (ℕ × (MutBor ℕ × (Lent × Unit {0}))))))))))))))
 
 abbrev DdsGiven : Type 0
 DdsGiven =
-    Header × (Counts × (Lent × (Lent × (Lent × (Lent × (Lent × (Lent × (Lent × (Lent × (Lent × (Lent × (Lent × Unit {0}))))))))))))
+    Header × (Counts × (Shown × (Shown × (Shown × (Shown × (Shown × (Shown × (Shown × (Shown × (Shown × (Shown × (Lent × Unit {0}))))))))))))
 
 -- `open`
 abbrev pub open_call : OpenGiven → Opened → OpenGiven → OpenCall
@@ -257,7 +261,7 @@ dds_call (h, (c, (t₁, (t₂, (t₃, (t₄, (t₅, (file, (ce, (cs, (ae, (al, (
 
 -- `texels`, `crunch_texels`
 abbrev TexelsGiven : Type 0
-TexelsGiven = ℕ × (Face × (Lent × (Lent × Unit {0})))
+TexelsGiven = ℕ × (Face × (Shown × (Lent × Unit {0})))
 
 abbrev pub texels_call : TexelsGiven → ℕ → TexelsGiven → TexelsCall
 texels_call (format, (face, (blocks, (dst, _)))) r (_, (_, (_, (dst₁, _)))) =
