@@ -15,7 +15,8 @@ loop-face-init c = (omega arith, refl)
 pub clear_face-requires : goal.clear_face-requires
 clear_face-requires c =
     let a = c.args in
-    record { room = room-kept c.requires (ap length c.loop-face.invariant.1 ∙ painted-length a.g (blank a.g) c.loop-face.face a.dst.now); face_in = omega (arith, c.loop-face-test.true) }
+    record { room = room-kept c.requires (ap length c.loop-face.invariant.1 ∙ painted-length a.g (blank a.g) c.loop-face.face a.dst.now);
+        face_in = omega (arith, c.loop-face-test.true) }
 
 pub overflow_add-face : goal.overflow_add-face
 overflow_add-face c = omega (arith, c.loop-face-test.true, c.requires.few_faces)

@@ -12,8 +12,10 @@ put_eight-requires c = ⊎_elim (λ e. omega (arith, c.requires.room)) (λ e. om
 
 pub returns-then-bytes-eq16 : goal.returns-then-bytes-eq16
 returns-then-bytes-eq16 c =
-    put_both c.args.dst.now c.args.at 0 0 c.put_eight.ensures c.put_eight-then-bytes-eq16.ensures (zeros_16 c.args.bytes c.if-bytes-eq16.true)
+    put_both c.args.dst.now c.args.at 0 0 c.put_eight.ensures c.put_eight-then-bytes-eq16.ensures
+        (zeros_16 c.args.bytes c.if-bytes-eq16.true)
 
 pub returns-else-bytes-eq16 : goal.returns-else-bytes-eq16
 returns-else-bytes-eq16 c =
-    c.put_eight.ensures ∙ ap (sets c.args.dst.now c.args.at) (zeros_8 c.args.bytes (⊎_elim (λ e. e) (λ e. absurd (c.if-bytes-eq16.false e)) c.requires.bytes_known))
+    c.put_eight.ensures ∙ ap (sets c.args.dst.now c.args.at) (zeros_8 c.args.bytes
+        (⊎_elim (λ e. e) (λ e. absurd (c.if-bytes-eq16.false e)) c.requires.bytes_known))

@@ -25,12 +25,16 @@ loop-x-init c = let a = c.args in ((omega arith, place-first a.g a.face a.y), re
 
 pub clear_block-requires : goal.clear_block-requires
 clear_block-requires c =
-    let l : Lies c.args.g c.args.face c.loop-x.x c.args.y (length c.args.dst.now) = lies c.requires.room (record { face = c.requires.face_in; column = c.loop-x-test.true; row = c.requires.y_in }) in
-    let n : length c.loop-x.dst ≡ length c.args.dst.now = let a = c.args in ap length c.loop-x.invariant.1 ∙ row-length a.g (blank a.g) a.face a.y c.loop-x.x a.dst.now in
+    let l : Lies c.args.g c.args.face c.loop-x.x c.args.y (length c.args.dst.now) = lies c.requires.room
+        (record { face = c.requires.face_in; column = c.loop-x-test.true; row = c.requires.y_in }) in
+    let n : length c.loop-x.dst ≡ length c.args.dst.now = let a = c.args in ap length c.loop-x.invariant.1 ∙ row-length a.g (blank a.g)
+        a.face a.y c.loop-x.x a.dst.now in
     record { bytes_known = c.requires.room.size; room = omega (arith, c.loop-x.invariant.0.1) }
 
 pub overflow_add-at-in-loop-x : goal.overflow_add-at-in-loop-x
-overflow_add-at-in-loop-x c = let l : Lies c.args.g c.args.face c.loop-x.x c.args.y (length c.args.dst.now) = lies c.requires.room (record { face = c.requires.face_in; column = c.loop-x-test.true; row = c.requires.y_in }) in omega (arith, c.loop-x.invariant.0.1, c.well_formed.0.0)
+overflow_add-at-in-loop-x c = let l : Lies c.args.g c.args.face c.loop-x.x c.args.y (length c.args.dst.now) = lies c.requires.room
+    (record { face = c.requires.face_in; column = c.loop-x-test.true; row = c.requires.y_in }) in omega
+    (arith, c.loop-x.invariant.0.1, c.well_formed.0.0)
 
 pub overflow_add-x : goal.overflow_add-x
 overflow_add-x c = omega (arith, c.loop-x-test.true, c.requires.room.few_columns)
@@ -47,7 +51,8 @@ loop-x-preserved c =
     )
 
 pub shape_of-dst : goal.shape_of-dst
-shape_of-dst c = (let it : length c.loop-x.dst ≡ length c.args.dst.now = (let a = c.args in ap length c.loop-x.invariant.1 ∙ row-length a.g (blank a.g) a.face a.y c.loop-x.x a.dst.now) in it)
+shape_of-dst c = (let it : length c.loop-x.dst ≡ length c.args.dst.now =
+    (let a = c.args in ap length c.loop-x.invariant.1 ∙ row-length a.g (blank a.g) a.face a.y c.loop-x.x a.dst.now) in it)
 
 pub returns : goal.returns
 returns c =

@@ -24,19 +24,29 @@ unfolding row_cutouts
 loop-x-init c = let a = c.args in ((omega arith, place-first a.g a.face a.y), (refl, omega arith))
 
 pub pair-requires : goal.pair-requires
-pair-requires c = let l : Lies c.args.g c.args.face c.loop-x.x c.args.y (length c.args.dst.now) = lies c.requires.room ((let it : In c.args.g c.args.face c.loop-x.x c.args.y = (record { face = c.requires.face_in; column = c.loop-x-test.true; row = c.requires.y_in }) in it)) in omega (arith, c.loop-x.invariant.0.1)
+pair-requires c = let l : Lies c.args.g c.args.face c.loop-x.x c.args.y (length c.args.dst.now) = lies c.requires.room
+    ((let it : In c.args.g c.args.face c.loop-x.x c.args.y = (record
+    { face = c.requires.face_in; column = c.loop-x-test.true; row = c.requires.y_in }) in it)) in omega (arith, c.loop-x.invariant.0.1)
 
 pub overflow_add-at-in-loop-x : goal.overflow_add-at-in-loop-x
-overflow_add-at-in-loop-x c = let l : Lies c.args.g c.args.face c.loop-x.x c.args.y (length c.args.dst.now) = lies c.requires.room ((let it : In c.args.g c.args.face c.loop-x.x c.args.y = (record { face = c.requires.face_in; column = c.loop-x-test.true; row = c.requires.y_in }) in it)) in omega (arith, c.loop-x.invariant.0.1, c.well_formed.0.0)
+overflow_add-at-in-loop-x c = let l : Lies c.args.g c.args.face c.loop-x.x c.args.y (length c.args.dst.now) = lies c.requires.room
+    ((let it : In c.args.g c.args.face c.loop-x.x c.args.y = (record
+    { face = c.requires.face_in; column = c.loop-x-test.true; row = c.requires.y_in }) in it)) in omega
+    (arith, c.loop-x.invariant.0.1, c.well_formed.0.0)
 
 pub pair-requires-in-loop-x : goal.pair-requires-in-loop-x
-pair-requires-in-loop-x c = let l : Lies c.args.g c.args.face c.loop-x.x c.args.y (length c.args.dst.now) = lies c.requires.room ((let it : In c.args.g c.args.face c.loop-x.x c.args.y = (record { face = c.requires.face_in; column = c.loop-x-test.true; row = c.requires.y_in }) in it)) in omega (arith, c.loop-x.invariant.0.1)
+pair-requires-in-loop-x c = let l : Lies c.args.g c.args.face c.loop-x.x c.args.y (length c.args.dst.now) = lies c.requires.room
+    ((let it : In c.args.g c.args.face c.loop-x.x c.args.y = (record
+    { face = c.requires.face_in; column = c.loop-x-test.true; row = c.requires.y_in }) in it)) in omega (arith, c.loop-x.invariant.0.1)
 
 pub overflow_add-n : goal.overflow_add-n
 overflow_add-n c = omega (arith, c.loop-x.invariant.1.1, c.loop-x-test.true, c.requires.room.few_columns)
 
 pub overflow_add-at-in-loop-x-2 : goal.overflow_add-at-in-loop-x-2
-overflow_add-at-in-loop-x-2 c = let l : Lies c.args.g c.args.face c.loop-x.x c.args.y (length c.args.dst.now) = lies c.requires.room ((let it : In c.args.g c.args.face c.loop-x.x c.args.y = (record { face = c.requires.face_in; column = c.loop-x-test.true; row = c.requires.y_in }) in it)) in omega (arith, c.loop-x.invariant.0.1, c.well_formed.0.0, c.requires.bytes_same)
+overflow_add-at-in-loop-x-2 c = let l : Lies c.args.g c.args.face c.loop-x.x c.args.y (length c.args.dst.now) = lies c.requires.room
+    ((let it : In c.args.g c.args.face c.loop-x.x c.args.y = (record
+    { face = c.requires.face_in; column = c.loop-x-test.true; row = c.requires.y_in }) in it)) in omega
+    (arith, c.loop-x.invariant.0.1, c.well_formed.0.0, c.requires.bytes_same)
 
 pub overflow_add-x : goal.overflow_add-x
 overflow_add-x c = omega (arith, c.loop-x-test.true, c.requires.room.few_columns)
@@ -47,8 +57,10 @@ loop-x-smaller c = omega (arith, c.loop-x-test.true)
 pub loop-x-preserved : goal.loop-x-preserved
 loop-x-preserved c =
     let l = c.loop-x in
-    let here : In c.args.g c.args.face c.loop-x.x c.args.y = record { face = c.requires.face_in; column = c.loop-x-test.true; row = c.requires.y_in } in (
-      (omega (arith, c.loop-x-test.true), omega (arith, l.invariant.0.1, c.requires.bytes_same, place-next c.args.g c.args.face l.x c.args.y)),
+    let here : In c.args.g c.args.face c.loop-x.x c.args.y = record
+        { face = c.requires.face_in; column = c.loop-x-test.true; row = c.requires.y_in } in (
+      (omega (arith, c.loop-x-test.true), omega (arith, l.invariant.0.1, c.requires.bytes_same, place-next c.args.g c.args.face l.x
+          c.args.y)),
       elim c.if-pair.branch [
         then-pair w ↦
           let e = one_more c.args.dst.now c.requires.room here l.invariant.0.1 c.pair.ensures c.pair-in-loop-x.ensures w.if-pair.true in
@@ -63,4 +75,5 @@ pub returns : goal.returns
 returns c =
     let l = c.loop-x in
     let full : l.x ≡ c.args.g.columns = omega (arith, l.invariant.0.0, c.loop-x-test.false) in
-    (l.invariant.1.0 ∙ ap (row_cutouts (standing c.args.g c.args.dst.now) c.args.face c.args.y) full, omega (arith, l.invariant.1.1, c.requires.room.few_columns))
+    (l.invariant.1.0 ∙ ap (row_cutouts (standing c.args.g c.args.dst.now) c.args.face c.args.y) full, omega
+        (arith, l.invariant.1.1, c.requires.room.few_columns))

@@ -23,9 +23,12 @@ put_eight-requires-then-two c =
 pub returns-then-two : goal.returns-then-two
 returns-then-two c =
     put_both c.args.dst.now c.args.at _ _ c.put_eight.ensures c.put_eight-then-two.ensures
-    (of_two ((lent_of c.args.cends.now c.args.csels.now c.args.aends.now c.args.asels.now)) c.args.ps c.args.out.now (tile_in c.args.tiles c.args.q) c.args.q c.plane_half-lo.result c.plane_half-lo.ensures c.plane_half-hi.result c.if-two.true c.plane_half-hi.ensures)
+    (of_two ((lent_of c.args.cends.now c.args.csels.now c.args.aends.now c.args.asels.now)) c.args.ps c.args.out.now
+        (tile_in c.args.tiles c.args.q) c.args.q c.plane_half-lo.result c.plane_half-lo.ensures c.plane_half-hi.result c.if-two.true
+        c.plane_half-hi.ensures)
 
 pub returns-else-two : goal.returns-else-two
 returns-else-two c =
     c.put_eight.ensures
-    ∙ ap (sets c.args.dst.now c.args.at) (of_one ((lent_of c.args.cends.now c.args.csels.now c.args.aends.now c.args.asels.now)) c.args.ps c.args.out.now (tile_in c.args.tiles c.args.q) c.args.q c.plane_half-lo.result c.plane_half-lo.ensures c.if-two.false)
+    ∙ ap (sets c.args.dst.now c.args.at) (of_one ((lent_of c.args.cends.now c.args.csels.now c.args.aends.now c.args.asels.now)) c.args.ps
+        c.args.out.now (tile_in c.args.tiles c.args.q) c.args.q c.plane_half-lo.result c.plane_half-lo.ensures c.if-two.false)

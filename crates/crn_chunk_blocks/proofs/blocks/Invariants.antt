@@ -16,7 +16,8 @@ use borrow.Author.Rules.{rules}
 use Rattle.crn_chunk_blocks.proofs.blocks.Given as goal
 
 abbrev pub invariant-loop-q : goal.invariant-loop-q
-invariant-loop-q l = (l.q ≤ 4) × Painted l.g (block_in (lent_of l.cends l.csels l.aends l.asels) l.ps l.e l.out) (4 * chunk_number l.g l.face l.cx l.cy) (4 * chunk_number l.g l.face l.cx l.cy + l.q) l.initial.dst l.dst
+invariant-loop-q l = (l.q ≤ 4) × Painted l.g (block_in (lent_of l.cends l.csels l.aends l.asels) l.ps l.e l.out)
+    (4 * chunk_number l.g l.face l.cx l.cy) (4 * chunk_number l.g l.face l.cx l.cy + l.q) l.initial.dst l.dst
 
 abbrev pub decreases-loop-q : goal.decreases-loop-q
 decreases-loop-q l = 4 - l.q

@@ -49,7 +49,8 @@ slice_bounds-draw-end-2 c =
 
 pub draw-requires : goal.draw-requires
 draw-requires c =
-    record { holds = c.requires.ready.holds; usable = in_slices Usable c.args.ps c.args.lookup.now c.args.sorted.now c.args.which (c.requires.ready.served.coded c.args.which c.requires.which_in).usable }
+    record { holds = c.requires.ready.holds; usable = in_slices Usable c.args.ps c.args.lookup.now c.args.sorted.now c.args.which
+        (c.requires.ready.served.coded c.args.which c.requires.which_in).usable }
 
 pub returns : goal.returns
 returns c =

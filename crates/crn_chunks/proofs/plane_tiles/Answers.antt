@@ -8,7 +8,8 @@ pub loop-k-init : goal.loop-k-init
 loop-k-init c = tiling_none _ c.requires.ready.holds c.requires.i_in
 
 pub index-a-requires : goal.index-a-requires
-index-a-requires c = record { ready = record { short = c.requires.ready.short; served = c.requires.ready.served; holds = c.loop-k.invariant.holds }; which_in = c.requires.named.ends; size_in = c.requires.small.endpoints; i_in = c.loop-k.invariant.below }
+index-a-requires c = record { ready = record { short = c.requires.ready.short; served = c.requires.ready.served; holds =
+    c.loop-k.invariant.holds }; which_in = c.requires.named.ends; size_in = c.requires.small.endpoints; i_in = c.loop-k.invariant.below }
 
 pub shape_of-out-in_default : goal.shape_of-out-in_default
 shape_of-out-in_default c = c.loop-k.invariant.long

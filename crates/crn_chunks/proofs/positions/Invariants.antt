@@ -7,7 +7,8 @@ use Rattle.crn_chunks.proofs.Picking.{reach-at, Picking, picking_none, picking_m
 use Rattle.crn_chunks.proofs.positions.Given as goal
 
 abbrev pub invariant-loop-k : goal.invariant-loop-k
-invariant-loop-k l = Picking l.lookup l.sorted l.seg l.ps l.right l.bottom l.initial.i0 l.initial.i1 l.initial.at l.initial.out l.out l.at l.i0 l.i1 l.k
+invariant-loop-k l = Picking l.lookup l.sorted l.seg l.ps l.right l.bottom l.initial.i0 l.initial.i1 l.initial.at l.initial.out l.out l.at
+    l.i0 l.i1 l.k
 
 abbrev pub decreases-loop-k : goal.decreases-loop-k
 decreases-loop-k l = 4 - l.k

@@ -18,7 +18,8 @@ byte_of m n e = digit 4 m e + 16 * digit 4 n e
 abbrev entry_of : ℕ → ℕ → ℕ → ℕ
 entry_of m n i = tile_in (byte_of m n (i / 4)) (i % 4)
 
-tile_is : (m n e q : ℕ) → T (up_to (λ i. eqb (entry_of m n i) (get_or tile_map i 0)) (length tile_map)) → e < 8 → q < 4 → tile_in (byte_of m n e) q ≡ tile_at e q
+tile_is : (m n e q : ℕ) → T (up_to (λ i. eqb (entry_of m n i) (get_or tile_map i 0)) (length tile_map)) → e < 8 → q < 4 → tile_in
+    (byte_of m n e) q ≡ tile_at e q
 unfolding tile_map
 tile_is m n e q t he hq =
     let row : (4 * e + q) / 4 ≡ e = omega arith in

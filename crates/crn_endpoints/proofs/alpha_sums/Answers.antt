@@ -24,7 +24,8 @@ draw-t-requires c = record { holds = c.ready-near.ensures.0; usable = c.requires
 pub returns-in_default : goal.returns-in_default
 returns-in_default c =
     let e = c.in_default.is in
-    λ t d b. reaches-refused (sum-failed (c.loop-i.invariant.sums t d b) (alpha-sum t c.loop-i.i (omega arith)) (takes_at c.ready-near.ensures.1 (c.draw-t.ensures t d)) e) (c.refusal.ensures ∙ ap refusal_of e) c.place.ensures
+    λ t d b. reaches-refused (sum-failed (c.loop-i.invariant.sums t d b) (alpha-sum t c.loop-i.i (omega arith))
+        (takes_at c.ready-near.ensures.1 (c.draw-t.ensures t d)) e) (c.refusal.ensures ∙ ap refusal_of e) c.place.ensures
 
 pub loop-i-preserved : goal.loop-i-preserved
 loop-i-preserved c =
@@ -32,7 +33,8 @@ loop-i-preserved c =
     let e = c.in-Value.is in
     record {
       holds = taken-holds (c.draw-t.ensures code.code code.decodes) e;
-      sums = λ t d b. sum_more (c.loop-i.invariant.sums t d b) (alpha-sum t c.loop-i.i (omega arith)) (takes_at c.ready-near.ensures.1 (c.draw-t.ensures t d)) e c.wrapped.ensures;
+      sums = λ t d b. sum_more (c.loop-i.invariant.sums t d b) (alpha-sum t c.loop-i.i (omega arith))
+          (takes_at c.ready-near.ensures.1 (c.draw-t.ensures t d)) e c.wrapped.ensures;
     }
 
 pub returns : goal.returns

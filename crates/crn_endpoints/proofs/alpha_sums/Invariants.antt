@@ -15,7 +15,8 @@ use Rattle.crn_endpoints.proofs.alpha_sums.Given as goal
 -- at the cursor `at`, after i of the sums that are read from c on
 pub record State (lookup sorted seg before : List ℕ) (c : Cursor) (values : List ℕ) (at : Cursor) (i : ℕ) : Type 0 where
   pub holds : Holds seg at
-  pub sums : (t : List ℕ) → Decodes t lookup sorted → (b : ℕ) → Summed seg (alpha_sums t) i values at (run (from_bits seg) (summed (alpha_sums t) 0 before) (spot (place c) b))
+  pub sums : (t : List ℕ) → Decodes t lookup sorted → (b : ℕ) → Summed seg (alpha_sums t) i values at
+      (run (from_bits seg) (summed (alpha_sums t) 0 before) (spot (place c) b))
 
 abbrev pub invariant-loop-i : goal.invariant-loop-i
 invariant-loop-i l = State l.lookup l.sorted l.seg l.initial.values l.initial.at l.values l.at l.i

@@ -15,7 +15,8 @@ bounds-out-i c = omega (arith, c.loop-i.invariant.written.long)
 
 pub loop-i-preserved : goal.loop-i-preserved
 loop-i-preserved c =
-    filling_more c.loop-i.invariant c.loop-i-test.true c.alpha_sums.ensures c.requires.some_code.decodes c.in-To.is c.alpha_word.ensures (omega (arith, c.loop-i.invariant.written.long)) refl
+    filling_more c.loop-i.invariant c.loop-i-test.true c.alpha_sums.ensures c.requires.some_code.decodes c.in-To.is c.alpha_word.ensures
+        (omega (arith, c.loop-i.invariant.written.long)) refl
 
 pub returns-in-Refused : goal.returns-in-Refused
 returns-in-Refused c =

@@ -29,7 +29,8 @@ pub returns-in_default : goal.returns-in_default
 returns-in_default c =
     let e = c.in_default.is in (
       λ t d b.
-          reaches-refused (sum-failed (c.loop-i.invariant.sums t d b) (color-sum t c.loop-i.i c.six_bits-six.ensures c.loop-i-test.true) (takes_at c.ready-near.ensures.1 (c.draw_either-t.ensures _ _ d.0 d.1)) e)
+          reaches-refused (sum-failed (c.loop-i.invariant.sums t d b) (color-sum t c.loop-i.i c.six_bits-six.ensures c.loop-i-test.true)
+              (takes_at c.ready-near.ensures.1 (c.draw_either-t.ensures _ _ d.0 d.1)) e)
           (c.refusal.ensures ∙ ap refusal_of e)
           c.place.ensures,
       c.loop-i.invariant.small,
@@ -42,9 +43,11 @@ loop-i-preserved c =
     record {
       holds = taken-holds (c.draw_either-t.ensures _ _ c.requires.code_5.decodes c.requires.code_6.decodes) e;
       small = small-more c.loop-i.values c.loop-i.i _ c.loop-i.invariant.small f c.added.ensures;
-      sums = λ t d b. sum_more (c.loop-i.invariant.sums t d b) (color-sum t c.loop-i.i f c.loop-i-test.true) (takes_at c.ready-near.ensures.1 (c.draw_either-t.ensures _ _ d.0 d.1)) e c.added.ensures;
+      sums = λ t d b. sum_more (c.loop-i.invariant.sums t d b) (color-sum t c.loop-i.i f c.loop-i-test.true)
+          (takes_at c.ready-near.ensures.1 (c.draw_either-t.ensures _ _ d.0 d.1)) e c.added.ensures;
     }
 
 pub returns : goal.returns
 returns c =
-    (λ t d b. reaches_to (sums_done (c.loop-i.invariant.sums t d b) (color-ended t c.loop-i.i (omega arith))) c.loop-i.invariant.holds, c.loop-i.invariant.small)
+    (λ t d b. reaches_to (sums_done (c.loop-i.invariant.sums t d b) (color-ended t c.loop-i.i (omega arith))) c.loop-i.invariant.holds,
+        c.loop-i.invariant.small)

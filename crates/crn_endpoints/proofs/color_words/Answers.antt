@@ -10,7 +10,8 @@ pub loop-i-init : goal.loop-i-init
 loop-i-init c = (filling_none _ _ _ _ _ _ _ _ c.requires.holds, small-zeros 6)
 
 pub color_sums-requires : goal.color_sums-requires
-color_sums-requires c = record { holds = c.loop-i.invariant.0.holds; seg_long = c.requires.seg_long; code_5 = c.requires.code_5; code_6 = c.requires.code_6; small = c.loop-i.invariant.1 }
+color_sums-requires c = record { holds = c.loop-i.invariant.0.holds; seg_long = c.requires.seg_long; code_5 = c.requires.code_5; code_6 =
+    c.requires.code_6; small = c.loop-i.invariant.1 }
 
 pub color_word-requires : goal.color_word-requires
 color_word-requires c = c.color_sums.ensures.1
@@ -21,7 +22,8 @@ bounds-out-i c = omega (arith, c.loop-i.invariant.0.written.long, c.requires.cou
 pub loop-i-preserved : goal.loop-i-preserved
 loop-i-preserved c =
     (
-      filling_more c.loop-i.invariant.0 c.loop-i-test.true c.color_sums.ensures.0 (c.requires.code_5.decodes, c.requires.code_6.decodes) c.in-To.is c.color_word.ensures
+      filling_more c.loop-i.invariant.0 c.loop-i-test.true c.color_sums.ensures.0 (c.requires.code_5.decodes, c.requires.code_6.decodes)
+          c.in-To.is c.color_word.ensures
           (omega (arith, c.loop-i.invariant.0.written.long, c.requires.count_in))
           refl,
       c.color_sums.ensures.1,

@@ -15,8 +15,25 @@ use Rattle.crn_levels.proofs.Steps.{far, at_first, moved, rest-whole, put_whole,
 use Rattle.crn_levels.proofs.levels_by.Goals as goal
 
 pub loop-level-init : goal.loop-level-init
-loop-level-init c =
-    (omega arith, (omega arith, (refl, (omega arith, (omega arith, λ t m. ap (λ (f : Far). several_from (c.args.h.levels - c.args.first) (record_with c.args.h t) c.args.file.now (lent_of c.args.color_endpoints.now c.args.color_selectors.now c.args.alpha_endpoints.now c.args.alpha_selectors.now) f c.args.dst.now) (at_first c.args.first c.args.budget.now))))))
+loop-level-init c = (
+  omega arith,
+  (
+    omega arith,
+    (
+      refl,
+      (
+        omega arith,
+        (
+          omega arith,
+          λ t m. ap
+              (λ (f : Far). several_from (c.args.h.levels - c.args.first) (record_with c.args.h t) c.args.file.now
+              (lent_of c.args.color_endpoints.now c.args.color_selectors.now c.args.alpha_endpoints.now c.args.alpha_selectors.now) f
+              c.args.dst.now) (at_first c.args.first c.args.budget.now),
+        ),
+      ),
+    ),
+  ),
+)
 
 pub unpack_made-u-requires : goal.unpack_made-u-requires
 unpack_made-u-requires c = c.requires
@@ -29,35 +46,82 @@ pub returns-in_default : goal.returns-in_default
 returns-in_default c =
     λ t m.
     from_start (c.loop-level.invariant.1.1.1.1.1 t m)
-    (c.stopped.ensures ∙ ap (λ (u : Unpacked). stopped_by u (c.loop-level.level - c.args.first) (c.args.budget.now - c.unpack_made-u.new.budget) c.loop-level.cutouts) c.in_default.is)
-    (off (record_with c.args.h t) _ _ (far c.args.first c.loop-level.level c.loop-level.from c.args.budget.now c.loop-level.budget c.loop-level.cutouts) c.loop-level.dst (c.args.h.levels - (c.loop-level.level + 1))
-    (omega (arith, c.loop-level-test.true)) c.level_sizes-z.ensures (rest-whole c.loop-level.from c.loop-level.dst) (omega (arith, c.loop-level.invariant.1.1.1.0)) (put_whole c.loop-level.from c.loop-level.dst _)
+    (c.stopped.ensures ∙ ap (λ (u : Unpacked). stopped_by u (c.loop-level.level - c.args.first)
+    (c.args.budget.now - c.unpack_made-u.new.budget) c.loop-level.cutouts) c.in_default.is)
+    (off (record_with c.args.h t) _ _ (far c.args.first c.loop-level.level c.loop-level.from c.args.budget.now c.loop-level.budget
+    c.loop-level.cutouts) c.loop-level.dst (c.args.h.levels - (c.loop-level.level + 1))
+    (omega (arith, c.loop-level-test.true)) c.level_sizes-z.ensures (rest-whole c.loop-level.from c.loop-level.dst)
+    (omega (arith, c.loop-level.invariant.1.1.1.0)) (put_whole c.loop-level.from c.loop-level.dst _)
     (rw c.in_default.is at (c.unpack_made-u.ensures t m)))
 
--- FIXME given struct-known; given of struct-known
 pub overflow_add-level : goal.overflow_add-level
 overflow_add-level c = omega (arith, c.loop-level-test.true, c.struct_known-1.given)
 
 pub overflow_add-from : goal.overflow_add-from
-overflow_add-from c = omega (arith, ((let it : (c.level_sizes-z.result.bytes + c.loop-level.from ≤ length c.loop-level.dst) × ((c.in-Blocks.cut ≤ most_cutouts) × (c.unpack_made-u.new.budget + c.in-Blocks.symbols ≡ c.loop-level.budget)) = (let o = rw c.in-Blocks.is at (c.unpack_made-u.ensures c.requires.of c.requires.made) in
-    let w = went (record_with c.args.h c.requires.of) _ _ _ _ _ c.level_sizes-z.ensures o in
-    (omega (arith, w.0, c.loop-level.invariant.1.0, ap length (rest-whole c.loop-level.from c.loop-level.dst), length-drop c.loop-level.from c.loop-level.dst), (w.1, o.spent))) in it)).0, c.loop-level.invariant.1.1.0, c.well_formed.1.1.1.1.1.1.1.1.1.1.1.0.0)
+overflow_add-from c = omega (
+  arith,
+  ((let it : (c.level_sizes-z.result.bytes + c.loop-level.from ≤ length c.loop-level.dst) ×
+      ((c.in-Blocks.cut ≤ most_cutouts) × (c.unpack_made-u.new.budget + c.in-Blocks.symbols ≡ c.loop-level.budget)) =
+      (let o = rw c.in-Blocks.is at (c.unpack_made-u.ensures c.requires.of c.requires.made) in
+      let w = went (record_with c.args.h c.requires.of) _ _ _ _ _ c.level_sizes-z.ensures o in (
+        omega (
+          arith,
+          w.0,
+          c.loop-level.invariant.1.0,
+          ap length (rest-whole c.loop-level.from c.loop-level.dst),
+          length-drop c.loop-level.from
+              c.loop-level.dst,
+        ),
+        (w.1, o.spent),
+      )) in it)).0,
+  c.loop-level.invariant.1.1.0,
+  c.well_formed.1.1.1.1.1.1.1.1.1.1.1.0.0,
+)
 
--- FIXME given struct-known; given of struct-known
 pub overflow_add-cutouts : goal.overflow_add-cutouts
-overflow_add-cutouts c = omega (arith, ((let it : (c.level_sizes-z.result.bytes + c.loop-level.from ≤ length c.loop-level.dst) × ((c.in-Blocks.cut ≤ most_cutouts) × (c.unpack_made-u.new.budget + c.in-Blocks.symbols ≡ c.loop-level.budget)) = (let o = rw c.in-Blocks.is at (c.unpack_made-u.ensures c.requires.of c.requires.made) in
-    let w = went (record_with c.args.h c.requires.of) _ _ _ _ _ c.level_sizes-z.ensures o in
-    (omega (arith, w.0, c.loop-level.invariant.1.0, ap length (rest-whole c.loop-level.from c.loop-level.dst), length-drop c.loop-level.from c.loop-level.dst), (w.1, o.spent))) in it)).1.0, c.loop-level.invariant.0, c.loop-level.invariant.1.1.1.1.0, c.loop-level-test.true, c.struct_known-1.given)
+overflow_add-cutouts c = omega (
+  arith,
+  ((let it : (c.level_sizes-z.result.bytes + c.loop-level.from ≤ length c.loop-level.dst) ×
+      ((c.in-Blocks.cut ≤ most_cutouts) × (c.unpack_made-u.new.budget + c.in-Blocks.symbols ≡ c.loop-level.budget)) =
+      (let o = rw c.in-Blocks.is at (c.unpack_made-u.ensures c.requires.of c.requires.made) in
+      let w = went (record_with c.args.h c.requires.of) _ _ _ _ _ c.level_sizes-z.ensures o in (
+        omega (
+          arith,
+          w.0,
+          c.loop-level.invariant.1.0,
+          ap length (rest-whole c.loop-level.from c.loop-level.dst),
+          length-drop c.loop-level.from
+              c.loop-level.dst,
+        ),
+        (w.1, o.spent),
+      )) in it)).1.0,
+  c.loop-level.invariant.0,
+  c.loop-level.invariant.1.1.1.1.0,
+  c.loop-level-test.true,
+  c.struct_known-1.given,
+)
 
 pub loop-level-smaller : goal.loop-level-smaller
 loop-level-smaller c = omega (arith, c.loop-level-test.true)
 
 pub loop-level-preserved : goal.loop-level-preserved
 loop-level-preserved c =
-    let w : (c.level_sizes-z.result.bytes + c.loop-level.from ≤ length c.loop-level.dst) × ((c.in-Blocks.cut ≤ most_cutouts) × (c.unpack_made-u.new.budget + c.in-Blocks.symbols ≡ c.loop-level.budget)) = let o = rw c.in-Blocks.is at (c.unpack_made-u.ensures c.requires.of c.requires.made) in
-    let w = went (record_with c.args.h c.requires.of) _ _ _ _ _ c.level_sizes-z.ensures o in
-    (omega (arith, w.0, c.loop-level.invariant.1.0, ap length (rest-whole c.loop-level.from c.loop-level.dst), length-drop c.loop-level.from c.loop-level.dst), (w.1, o.spent)) in
-    let long = same_len_mid c.loop-level.from (length c.loop-level.dst - c.loop-level.from) c.loop-level.dst c.unpack_made-u.new.dst c.unpack_made-u.auto.dst in (
+    let w : (c.level_sizes-z.result.bytes + c.loop-level.from ≤ length c.loop-level.dst) ×
+    ((c.in-Blocks.cut ≤ most_cutouts) × (c.unpack_made-u.new.budget + c.in-Blocks.symbols ≡ c.loop-level.budget)) = let o = rw
+    c.in-Blocks.is at (c.unpack_made-u.ensures c.requires.of c.requires.made) in
+    let w = went (record_with c.args.h c.requires.of) _ _ _ _ _ c.level_sizes-z.ensures o in (
+      omega (
+        arith,
+        w.0,
+        c.loop-level.invariant.1.0,
+        ap length (rest-whole c.loop-level.from c.loop-level.dst),
+        length-drop c.loop-level.from
+            c.loop-level.dst,
+      ),
+      (w.1, o.spent),
+    ) in
+    let long = same_len_mid c.loop-level.from (length c.loop-level.dst - c.loop-level.from) c.loop-level.dst c.unpack_made-u.new.dst
+    c.unpack_made-u.auto.dst in (
       omega arith,
       (
         omega (arith, w.0, long),
@@ -68,9 +132,11 @@ loop-level-preserved c =
             (
               omega (arith, w.1.0),
               λ t m.
-                  sym (on (record_with c.args.h t) _ _ (far c.args.first c.loop-level.level c.loop-level.from c.args.budget.now c.loop-level.budget c.loop-level.cutouts) c.loop-level.dst (c.args.h.levels - (c.loop-level.level + 1))
+                  sym (on (record_with c.args.h t) _ _ (far c.args.first c.loop-level.level c.loop-level.from c.args.budget.now
+                  c.loop-level.budget c.loop-level.cutouts) c.loop-level.dst (c.args.h.levels - (c.loop-level.level + 1))
                   (omega (arith, c.loop-level-test.true)) c.level_sizes-z.ensures (rest-whole c.loop-level.from c.loop-level.dst)
-                  (moved c.args.first c.loop-level.level c.loop-level.from c.args.budget.now c.loop-level.cutouts _ _ _ c.loop-level.invariant.0 c.loop-level.invariant.1.1.1.0 w.1.1) (put_whole c.loop-level.from c.loop-level.dst _)
+                  (moved c.args.first c.loop-level.level c.loop-level.from c.args.budget.now c.loop-level.cutouts _ _ _
+                  c.loop-level.invariant.0 c.loop-level.invariant.1.1.1.0 w.1.1) (put_whole c.loop-level.from c.loop-level.dst _)
                   (rw c.in-Blocks.is at (c.unpack_made-u.ensures t m)))
                   ∙ c.loop-level.invariant.1.1.1.1.1 t m,
             ),
@@ -83,4 +149,5 @@ pub returns : goal.returns
 returns c =
     λ t m.
     from_start (c.loop-level.invariant.1.1.1.1.1 t m) refl
-    (all-through (record_with c.args.h t) _ _ (far c.args.first c.loop-level.level c.loop-level.from c.args.budget.now c.loop-level.budget c.loop-level.cutouts) c.loop-level.dst (omega (arith, c.loop-level-test.false)))
+    (all-through (record_with c.args.h t) _ _ (far c.args.first c.loop-level.level c.loop-level.from c.args.budget.now c.loop-level.budget
+    c.loop-level.cutouts) c.loop-level.dst (omega (arith, c.loop-level-test.false)))

@@ -16,10 +16,14 @@ use Rattle.crn_levels.proofs.Steps.{far, at_first, moved, rest-whole, put_whole,
 use Rattle.crn_levels.proofs.levels_by.Given as goal
 
 abbrev pub invariant-loop-level : goal.invariant-loop-level
-invariant-loop-level l = (l.first ≤ l.level) × ((l.from ≤ length l.dst) × ((length l.dst ≡ length l.initial.dst) × ((l.budget ≤ l.all) × ((l.cutouts ≤ most_cutouts * (l.level - l.first))
+invariant-loop-level l = (l.first ≤ l.level) × ((l.from ≤ length l.dst) ×
+    ((length l.dst ≡ length l.initial.dst) × ((l.budget ≤ l.all) × ((l.cutouts ≤ most_cutouts * (l.level - l.first))
     × ((t : Tables) → Made (record_with l.h t) l.s l.lookup l.sorted
-    → several_from (l.h.levels - l.level) (record_with l.h t) l.file (lent_of l.color_endpoints l.color_selectors l.alpha_endpoints l.alpha_selectors) (far l.first l.level l.from l.all l.budget l.cutouts) l.dst
-    ≡ several_from (l.h.levels - l.first) (record_with l.h t) l.file (lent_of l.color_endpoints l.color_selectors l.alpha_endpoints l.alpha_selectors) (begun l.first l.all) l.initial.dst)))))
+    → several_from (l.h.levels - l.level) (record_with l.h t) l.file
+    (lent_of l.color_endpoints l.color_selectors l.alpha_endpoints l.alpha_selectors)
+    (far l.first l.level l.from l.all l.budget l.cutouts) l.dst
+    ≡ several_from (l.h.levels - l.first) (record_with l.h t) l.file
+    (lent_of l.color_endpoints l.color_selectors l.alpha_endpoints l.alpha_selectors) (begun l.first l.all) l.initial.dst)))))
 
 abbrev pub decreases-loop-level : goal.decreases-loop-level
 decreases-loop-level l = l.h.levels - l.level

@@ -20,7 +20,12 @@ refill-d-requires c = (picks_now (c.loop-k.invariant true true)).holds
 pub quick_pair-requires : goal.quick_pair-requires
 quick_pair-requires c =
     let now = picks_now (c.loop-k.invariant true true) in
-    let far = reach-at c.loop-k.k (omega (arith, c.loop-k-test.true)) in record { able = record { served = c.requires.able.served; holds = c.refill-d.ensures.holds }; symbols_in = (omega (arith, now.below.0, far), omega (arith, now.below.1, far)); two_planes = c.requires.two_planes }
+    let far = reach-at c.loop-k.k (omega (arith, c.loop-k-test.true)) in record {
+      able = record { served = c.requires.able.served; holds = c.refill-d.ensures.holds };
+      symbols_in =
+          (omega (arith, now.below.0, far), omega (arith, now.below.1, far));
+      two_planes = c.requires.two_planes;
+    }
 
 pub shape_of-out-in_default : goal.shape_of-out-in_default
 shape_of-out-in_default c = (picks_now (c.loop-k.invariant true true)).long

@@ -11,7 +11,13 @@ use Rattle.crn_quick.proofs.quick_chunk.Goals as goal
 
 pub quick_tiles-requires : goal.quick_tiles-requires
 quick_tiles-requires c =
-    record { able = record { served = c.requires.served; holds = c.requires.onward.holds }; encodings_in = c.requires.onward.ends; n_in = c.requires.enough_left.0; out_long = c.requires.out_long }
+    record {
+      able = record { served = c.requires.served; holds = c.requires.onward.holds };
+      encodings_in = c.requires.onward.ends;
+      n_in =
+          c.requires.enough_left.0;
+      out_long = c.requires.out_long;
+    }
 
 pub returns-in_default : goal.returns-in_default
 returns-in_default c = tt

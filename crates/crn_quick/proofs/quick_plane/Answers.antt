@@ -12,7 +12,13 @@ loop-k-init c = quick_none _ c.requires.able.holds c.requires.i_in
 pub quick_index-requires : goal.quick_index-requires
 quick_index-requires c =
     let now = quick_now c.loop-k.invariant in
-    record { able = record { served = c.requires.able.served; holds = now.holds }; which_in = c.requires.named.ends; size_in = c.requires.small.endpoints; i_in = now.below }
+    record {
+      able = record { served = c.requires.able.served; holds = now.holds };
+      which_in = c.requires.named.ends;
+      size_in =
+          c.requires.small.endpoints;
+      i_in = now.below;
+    }
 
 pub shape_of-out-in_default : goal.shape_of-out-in_default
 shape_of-out-in_default c = (quick_now c.loop-k.invariant).long

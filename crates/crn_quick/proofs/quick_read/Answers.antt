@@ -12,16 +12,27 @@ returns-then-s-lt17 c = tt
 
 pub quick_code-requires : goal.quick_code-requires
 quick_code-requires c =
-    record { ready = record { short = c.requires.seg_long; served = c.requires.served; holds = c.requires.onward.holds }; some_left = omega (arith, c.if-s-lt17.false) }
+    record {
+      ready = record { short = c.requires.seg_long; served = c.requires.served; holds = c.requires.onward.holds };
+      some_left = omega
+          (arith, c.if-s-lt17.false);
+    }
 
 pub returns-in_default : goal.returns-in_default
 returns-in_default c = tt
 
--- FIXME given of quick-chunk-arg
 pub quick_chunk-requires : goal.quick_chunk-requires
 quick_chunk-requires c =
     let e = when_code _ c.quick_code.ensures c.in-Next.is in
-    let held = encoded-holds c.args.ps true true c.args.r e.same refl in record { seg_long = c.requires.seg_long; served = c.requires.served; onward = record { holds = held; ends = c.requires.onward.ends; first = c.requires.onward.first; second = c.requires.onward.second }; enough_left = (c.tile_count-n.ensures.1, omega (arith, e.few, c.if-s-lt17.false)); out_long = c.quick_chunk-arg-1.given.0.1 }
+    let held = encoded-holds c.args.ps true true c.args.r e.same refl in record {
+      seg_long = c.requires.seg_long;
+      served = c.requires.served;
+      onward = record
+          { holds = held; ends = c.requires.onward.ends; first = c.requires.onward.first; second = c.requires.onward.second };
+      enough_left =
+          (c.tile_count-n.ensures.1, omega (arith, e.few, c.if-s-lt17.false));
+      out_long = c.quick_chunk-arg-1.given.0.1;
+    }
 
 pub returns-in_default-quick_chunk : goal.returns-in_default-quick_chunk
 returns-in_default-quick_chunk c = tt

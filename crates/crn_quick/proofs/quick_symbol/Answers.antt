@@ -34,7 +34,8 @@ slice_bounds-entry-end-2 c = sorted-end c.requires.able.served c.requires.which_
 
 pub entry-e-requires : goal.entry-e-requires
 entry-e-requires c =
-    in_slices Usable c.args.ps c.args.lookup.now c.args.sorted.now c.args.which (c.requires.able.served.coded c.args.which c.requires.which_in).usable
+    in_slices Usable c.args.ps c.args.lookup.now c.args.sorted.now c.args.which
+    (c.requires.able.served.coded c.args.which c.requires.which_in).usable
 
 pub returns-then-e-eq0 : goal.returns-then-e-eq0
 returns-then-e-eq0 c = tt
@@ -45,8 +46,10 @@ overflow_sub-cursor c =
       arith,
       c.if-have-lt16.false,
       code-short c.args.lookup.now c.args.sorted.now c.args.ps c.args.which
-          (λ cs k. in_slices (Decodes (cs c.args.which)) c.args.ps c.args.lookup.now c.args.sorted.now c.args.which (k c.args.which c.requires.which_in))
-          (in_slices Usable c.args.ps c.args.lookup.now c.args.sorted.now c.args.which (c.requires.able.served.coded c.args.which c.requires.which_in).usable)
+          (λ cs k. in_slices (Decodes (cs c.args.which)) c.args.ps c.args.lookup.now c.args.sorted.now c.args.which
+          (k c.args.which c.requires.which_in))
+          (in_slices Usable c.args.ps c.args.lookup.now c.args.sorted.now c.args.which
+          (c.requires.able.served.coded c.args.which c.requires.which_in).usable)
           c.requires.able.holds c.if-have-lt16.false c.entry-e.ensures c.if-e-eq0.false,
     )
 
@@ -56,6 +59,8 @@ overflow_cast-result c = omega (arith, c.entry-e.type_inv)
 pub returns : goal.returns
 returns c =
     found c.args.lookup.now c.args.sorted.now c.args.ps c.args.which
-    (λ cs k. in_slices (Decodes (cs c.args.which)) c.args.ps c.args.lookup.now c.args.sorted.now c.args.which (k c.args.which c.requires.which_in))
-    (in_slices Usable c.args.ps c.args.lookup.now c.args.sorted.now c.args.which (c.requires.able.served.coded c.args.which c.requires.which_in).usable)
+    (λ cs k. in_slices (Decodes (cs c.args.which)) c.args.ps c.args.lookup.now c.args.sorted.now c.args.which
+    (k c.args.which c.requires.which_in))
+    (in_slices Usable c.args.ps c.args.lookup.now c.args.sorted.now c.args.which
+    (c.requires.able.served.coded c.args.which c.requires.which_in).usable)
     c.requires.able.holds c.if-have-lt16.false c.entry-e.ensures c.if-e-eq0.false (omega (arith, c.entry-e.type_inv))

@@ -7,7 +7,14 @@ use Rattle.crn_quick.proofs.quick_tiles.Goals as goal
 
 pub quick_plane-requires : goal.quick_plane-requires
 quick_plane-requires c =
-    record { able = record { served = c.requires.able.served; holds = c.refill-c0.ensures.holds }; named = c.requires.able.served.first; small = c.requires.able.served.small.0; i_in = c.requires.encodings_in.0; range_in = omega (arith, c.requires.n_in, c.requires.out_long) }
+    record {
+      able = record { served = c.requires.able.served; holds = c.refill-c0.ensures.holds };
+      named = c.requires.able.served.first;
+      small = c.requires.able.served.small.0;
+      i_in = c.requires.encodings_in.0;
+      range_in = omega
+          (arith, c.requires.n_in, c.requires.out_long);
+    }
 
 pub returns-in_default : goal.returns-in_default
 returns-in_default c = tt
@@ -20,7 +27,15 @@ refill-d0-requires c =
 pub quick_plane-requires-then-two : goal.quick_plane-requires-then-two
 quick_plane-requires-then-two c =
     let served = c.requires.able.served in
-    let room = c.quick_plane.auto.out in record { able = record { served = served; holds = c.refill-d0.ensures.holds }; named = served.second; small = served.small.1; i_in = c.requires.encodings_in.1; range_in = omega (arith, c.requires.n_in, c.requires.out_long, room) }
+    let room = c.quick_plane.auto.out in record {
+      able = record { served = served; holds = c.refill-d0.ensures.holds };
+      named =
+          served.second;
+      small = served.small.1;
+      i_in = c.requires.encodings_in.1;
+      range_in = omega
+          (arith, c.requires.n_in, c.requires.out_long, room);
+    }
 
 pub returns-in_default-quick_plane : goal.returns-in_default-quick_plane
 returns-in_default-quick_plane c = tt

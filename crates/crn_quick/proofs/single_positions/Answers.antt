@@ -13,7 +13,13 @@ refill-c0-requires c = c.requires.able.holds
 pub quick_index-requires : goal.quick_index-requires
 quick_index-requires c =
     let served = c.requires.able.served in
-    record { able = record { served = served; holds = c.refill-c0.ensures.holds }; which_in = served.first.sels; size_in = served.small.0.selectors; i_in = c.requires.symbols_in.0 }
+    record {
+      able = record { served = served; holds = c.refill-c0.ensures.holds };
+      which_in = served.first.sels;
+      size_in =
+          served.small.0.selectors;
+      i_in = c.requires.symbols_in.0;
+    }
 
 pub returns-in_default : goal.returns-in_default
 returns-in_default c = tt
@@ -22,7 +28,12 @@ pub quick_index-requires-2 : goal.quick_index-requires-2
 quick_index-requires-2 c =
     let t = when_step _ c.quick_index.ensures c.in-Drawn.is in
     let served = c.requires.able.served in
-    record { able = record { served = served; holds = stepped-holds t }; which_in = served.first.sels; size_in = served.small.0.selectors; i_in = stepped-small t }
+    record {
+      able = record { served = served; holds = stepped-holds t };
+      which_in = served.first.sels;
+      size_in = served.small.0.selectors;
+      i_in = stepped-small t;
+    }
 
 pub returns-in_default-quick_index : goal.returns-in_default-quick_index
 returns-in_default-quick_index c = tt
@@ -31,7 +42,12 @@ pub quick_index-requires-3 : goal.quick_index-requires-3
 quick_index-requires-3 c =
     let t = when_step _ c.quick_index-2.ensures c.in-Drawn-quick_index.is in
     let served = c.requires.able.served in
-    record { able = record { served = served; holds = stepped-holds t }; which_in = served.first.sels; size_in = served.small.0.selectors; i_in = stepped-small t }
+    record {
+      able = record { served = served; holds = stepped-holds t };
+      which_in = served.first.sels;
+      size_in = served.small.0.selectors;
+      i_in = stepped-small t;
+    }
 
 pub returns-in_default-quick_index-2 : goal.returns-in_default-quick_index-2
 returns-in_default-quick_index-2 c = tt
@@ -43,7 +59,13 @@ pub quick_index-requires-4 : goal.quick_index-requires-4
 quick_index-requires-4 c =
     let t = when_step _ c.quick_index-3.ensures c.in-Drawn-quick_index-2.is in
     let served = c.requires.able.served in
-    record { able = record { served = served; holds = c.filled-c3.ensures.holds }; which_in = served.first.sels; size_in = served.small.0.selectors; i_in = stepped-small t }
+    record {
+      able = record { served = served; holds = c.filled-c3.ensures.holds };
+      which_in = served.first.sels;
+      size_in =
+          served.small.0.selectors;
+      i_in = stepped-small t;
+    }
 
 pub returns-in_default-quick_index-3 : goal.returns-in_default-quick_index-3
 returns-in_default-quick_index-3 c = tt

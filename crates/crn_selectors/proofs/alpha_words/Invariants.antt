@@ -16,13 +16,16 @@ use Rattle.crn_selectors.proofs.Pairing.{pairs-zero}
 use borrow.Author.Rules.{rules}
 use Rattle.crn_selectors.proofs.alpha_words.Given as goal
 
-pub record State (lookup sorted seg : List ℕ) (count : ℕ) (before first : List ℕ) (bits₀ have₀ next₀ i k : ℕ) (out pairs : List ℕ) (bits have next : ℕ) : Type 0 where
-  pub filling : Filling (λ (t : List ℕ). Decodes t lookup sorted) seg (λ t. changed 7 t 8 0) alpha_selector_words count before (values_of first) (cursor_at bits₀ have₀ next₀) i k out (values_of pairs) (cursor_at bits have next)
+pub record State (lookup sorted seg : List ℕ) (count : ℕ) (before first : List ℕ) (bits₀ have₀ next₀ i k : ℕ) (out pairs : List ℕ)
+    (bits have next : ℕ) : Type 0 where
+  pub filling : Filling (λ (t : List ℕ). Decodes t lookup sorted) seg (λ t. changed 7 t 8 0) alpha_selector_words count before
+      (values_of first) (cursor_at bits₀ have₀ next₀) i k out (values_of pairs) (cursor_at bits have next)
   pub eight : Pairs true pairs
   pub words : k ≡ 3 * i
 
 abbrev pub invariant-loop-i : goal.invariant-loop-i
-invariant-loop-i l = State l.lookup l.sorted l.seg l.count l.initial.out l.initial.states l.initial.bits l.initial.have l.initial.next l.i l.k l.out l.states l.bits l.have l.next
+invariant-loop-i l = State l.lookup l.sorted l.seg l.count l.initial.out l.initial.states l.initial.bits l.initial.have l.initial.next l.i
+    l.k l.out l.states l.bits l.have l.next
 
 abbrev pub decreases-loop-i : goal.decreases-loop-i
 decreases-loop-i l = l.count - l.i

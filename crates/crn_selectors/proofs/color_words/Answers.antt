@@ -22,7 +22,8 @@ pub loop-i-init : goal.loop-i-init
 loop-i-init c = record { filling = filling_none _ _ _ _ _ _ _ _ c.requires.holds; eight = pairs-zero false; words = omega arith }
 
 pub next_word-w-requires : goal.next_word-w-requires
-next_word-w-requires c = record { holds = c.loop-i.invariant.filling.holds; some_code = c.requires.some_code; delta_table = c.delta_table-deltas.ensures; word_table = c.word_table-words.ensures; pairs = c.loop-i.invariant.eight }
+next_word-w-requires c = record { holds = c.loop-i.invariant.filling.holds; some_code = c.requires.some_code; delta_table =
+    c.delta_table-deltas.ensures; word_table = c.word_table-words.ensures; pairs = c.loop-i.invariant.eight }
 
 pub place-requires : goal.place-requires
 place-requires c = (c.next_word-w.ensures.holds, c.requires.seg_long)
@@ -38,13 +39,16 @@ pub overflow_cast-out : goal.overflow_cast-out
 overflow_cast-out c = omega (arith, c.next_word-w.ensures.small c.if-w-ne0.false)
 
 pub offset_bounds-out-i : goal.offset_bounds-out-i
-offset_bounds-out-i c = omega (arith, c.loop-i.invariant.filling.written.long, c.loop-i-test.true, c.requires.count_in, c.well_formed.1.1.1.1.1.0.1)
+offset_bounds-out-i c = omega (arith, c.loop-i.invariant.filling.written.long, c.loop-i-test.true, c.requires.count_in,
+    c.well_formed.1.1.1.1.1.0.1)
 
 pub bounds-out-i : goal.bounds-out-i
-bounds-out-i c = omega (arith, c.loop-i.invariant.filling.written.long, c.loop-i-test.true, c.requires.count_in, c.well_formed.1.1.1.1.1.0.1)
+bounds-out-i c = omega (arith, c.loop-i.invariant.filling.written.long, c.loop-i-test.true, c.requires.count_in,
+    c.well_formed.1.1.1.1.1.0.1)
 
 pub overflow_add-i : goal.overflow_add-i
-overflow_add-i c = omega (arith, c.loop-i.invariant.filling.written.long, c.loop-i-test.true, c.requires.count_in, c.well_formed.1.1.1.1.1.0.1)
+overflow_add-i c = omega (arith, c.loop-i.invariant.filling.written.long, c.loop-i-test.true, c.requires.count_in,
+    c.well_formed.1.1.1.1.1.0.1)
 
 pub loop-i-preserved : goal.loop-i-preserved
 unfolding color_selector_words
@@ -52,7 +56,9 @@ loop-i-preserved c =
     let z = c.if-w-ne0.false in
     record {
       filling = filling_more c.loop-i.invariant.filling c.loop-i-test.true c.next_word-w.ensures.reads c.requires.some_code.decodes
-          (ap (λ (n : ℕ). ended_at n (cursor_at c.next_word-w.result.bits c.next_word-w.result.have c.next_word-w.result.next)) z) (ap (λ (p : ℕ). p ∷ []) (sym (c.next_word-w.ensures.same z))) (omega (arith, c.loop-i.invariant.filling.written.long, c.loop-i-test.true, c.requires.count_in)) refl;
+          (ap (λ (n : ℕ). ended_at n (cursor_at c.next_word-w.result.bits c.next_word-w.result.have c.next_word-w.result.next)) z)
+              (ap (λ (p : ℕ). p ∷ []) (sym (c.next_word-w.ensures.same z)))
+              (omega (arith, c.loop-i.invariant.filling.written.long, c.loop-i-test.true, c.requires.count_in)) refl;
       eight = c.next_word-w.ensures.pairs;
       words = refl;
     }

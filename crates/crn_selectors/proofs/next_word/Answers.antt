@@ -29,7 +29,8 @@ pub filled-near-requires : goal.filled-near-requires
 filled-near-requires c = c.loop-j.invariant.holds
 
 pub draw_ready-t-requires : goal.draw_ready-t-requires
-draw_ready-t-requires c = record { holds = c.filled-near.ensures.holds; enough = c.filled-near.ensures.enough; usable = c.requires.some_code.decodes.usable }
+draw_ready-t-requires c = record { holds = c.filled-near.ensures.holds; enough = c.filled-near.ensures.enough; usable =
+    c.requires.some_code.decodes.usable }
 
 pub returns-in_default : goal.returns-in_default
 returns-in_default c =
@@ -39,7 +40,9 @@ returns-in_default c =
     let some = failed-some (draws code.code code.decodes) e in
     let none = c.refusal.ensures ∙ ap refusal_of e in
     record {
-      reads = λ t d b. reaches-ended (cursor_at c.loop-j.bits c.loop-j.have c.loop-j.next) (pair-failed (c.loop-j.invariant.changes t d b) c.loop-j-test.true (takes_at c.filled-near.ensures.stays (draws t d)) e) none some;
+      reads = λ t d b. reaches-ended (cursor_at c.loop-j.bits c.loop-j.have c.loop-j.next)
+          (pair-failed (c.loop-j.invariant.changes t d b) c.loop-j-test.true (takes_at c.filled-near.ensures.stays (draws t d)) e) none
+          some;
       holds = c.loop-j.invariant.holds;
       pairs = c.loop-j.invariant.eight;
       same = λ z. absurd (omega arith);
@@ -49,7 +52,10 @@ returns-in_default c =
 pub returns-then-pairs-s : goal.returns-then-pairs-s
 returns-then-pairs-s c =
     record {
-      reads = λ t d b. reaches-ended (cursor_at c.loop-j.bits c.loop-j.have c.loop-j.next) (pair_bad (c.loop-j.invariant.changes t d b) c.loop-j-test.true (takes_at c.filled-near.ensures.stays (c.draw_ready-t.ensures.0 t d)) c.in-Value.is c.pairs.ensures c.if-pairs-s.true) refl (omega arith);
+      reads = λ t d b. reaches-ended (cursor_at c.loop-j.bits c.loop-j.have c.loop-j.next)
+          (pair_bad (c.loop-j.invariant.changes t d b) c.loop-j-test.true
+          (takes_at c.filled-near.ensures.stays (c.draw_ready-t.ensures.0 t d)) c.in-Value.is c.pairs.ensures c.if-pairs-s.true) refl
+          (omega arith);
       holds = c.loop-j.invariant.holds;
       pairs = c.loop-j.invariant.eight;
       same = λ z. absurd (omega arith);
@@ -60,7 +66,8 @@ pub bounds-deltas-s : goal.bounds-deltas-s
 bounds-deltas-s c = omega (arith, c.if-pairs-s.false, c.pairs.ensures, pairs-few c.args.alpha)
 
 pub moved-p-requires : goal.moved-p-requires
-moved-p-requires c = record { halves = c.loop-j.invariant.eight.halves _; delta_halves = delta_halves (c.requires.delta_table _ (rw c.pairs.ensures at c.if-pairs-s.false)) }
+moved-p-requires c = record { halves = c.loop-j.invariant.eight.halves _; delta_halves = delta_halves
+    (c.requires.delta_table _ (rw c.pairs.ensures at c.if-pairs-s.false)) }
 
 pub bounds-words-p : goal.bounds-words-p
 bounds-words-p c = halves_small c.args.alpha (moved-halves c.moved-p.ensures)
@@ -70,10 +77,13 @@ overflow_shl-word c = omega (arith, c.loop-j.invariant.packs.near, c.loop-j.inva
 
 pub overflow_add-word : goal.overflow_add-word
 overflow_add-word c =
-    record { fits = pair_fits c.args.alpha c.loop-j.states c.loop-j.j _ c.loop-j.invariant.packs c.loop-j-test.true (omega (arith, c.loop-j.invariant.eight.long)) (c.wide.ensures.0 ∙ c.requires.word_table _ (halves_small c.args.alpha (moved-halves c.moved-p.ensures))) }
+    record { fits = pair_fits c.args.alpha c.loop-j.states c.loop-j.j _ c.loop-j.invariant.packs c.loop-j-test.true
+        (omega (arith, c.loop-j.invariant.eight.long)) (c.wide.ensures.0 ∙ c.requires.word_table _
+        (halves_small c.args.alpha (moved-halves c.moved-p.ensures))) }
 
 pub overflow_add-shift : goal.overflow_add-shift
-overflow_add-shift c = omega (arith, c.loop-j.invariant.packs.near, c.loop-j.invariant.packs.within, c.pair_bits-width.ensures, few_bits c.args.alpha)
+overflow_add-shift c = omega (arith, c.loop-j.invariant.packs.near, c.loop-j.invariant.packs.within, c.pair_bits-width.ensures, few_bits
+    c.args.alpha)
 
 pub loop-j-preserved : goal.loop-j-preserved
 loop-j-preserved c =
@@ -85,8 +95,11 @@ loop-j-preserved c =
     record {
       holds = taken-holds (draws code.code code.decodes) e;
       eight = pairs-moved c.loop-j.states c.loop-j.j m c.loop-j.invariant.eight;
-      packs = pair-packed c.args.alpha c.loop-j.states c.loop-j.j _ c.loop-j.invariant.packs c.loop-j-test.true (omega (arith, c.loop-j.invariant.eight.long)) (c.wide.ensures.0 ∙ c.requires.word_table _ (halves_small c.args.alpha (moved-halves c.moved-p.ensures))) c.pair_bits-width.ensures;
-      changes = λ t d b. pair-more (c.loop-j.invariant.changes t d b) c.loop-j-test.true (takes_at c.filled-near.ensures.stays (draws t d)) e c.pairs.ensures c.if-pairs-s.false (values_moved c.loop-j.states c.loop-j.j m (c.requires.delta_table _ meant));
+      packs = pair-packed c.args.alpha c.loop-j.states c.loop-j.j _ c.loop-j.invariant.packs c.loop-j-test.true
+          (omega (arith, c.loop-j.invariant.eight.long)) (c.wide.ensures.0 ∙ c.requires.word_table _
+          (halves_small c.args.alpha (moved-halves c.moved-p.ensures))) c.pair_bits-width.ensures;
+      changes = λ t d b. pair-more (c.loop-j.invariant.changes t d b) c.loop-j-test.true (takes_at c.filled-near.ensures.stays (draws t d))
+          e c.pairs.ensures c.if-pairs-s.false (values_moved c.loop-j.states c.loop-j.j m (c.requires.delta_table _ meant));
     }
 
 pub returns : goal.returns

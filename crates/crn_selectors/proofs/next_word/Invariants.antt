@@ -22,14 +22,17 @@ use borrow.Author.Rules.{rules}
 use Rattle.crn_selectors.proofs.next_word.Given as goal
 
 -- at the cursor `at`, after j of the pairs that are changed from c on
-pub record State (alpha : Bool) (lookup sorted seg : List ℕ) (c : Cursor) (before pairs : List ℕ) (at : Cursor) (word shift j : ℕ) : Type 0 where
+pub record State (alpha : Bool) (lookup sorted seg : List ℕ) (c : Cursor) (before pairs : List ℕ) (at : Cursor) (word shift j : ℕ) : Type 0
+    where
   pub holds : Holds seg at
   pub eight : Pairs alpha pairs
   pub packs : Packed (top_of alpha) (bits_of alpha) (values_of pairs) word (2 * j) shift
-  pub changes : (t : List ℕ) → Decodes t lookup sorted → (b : ℕ) → Changed seg (top_of alpha) t j (values_of pairs) at (run (from_bits seg) (changed (top_of alpha) t 8 0 (values_of before)) (spot (place c) b))
+  pub changes : (t : List ℕ) → Decodes t lookup sorted → (b : ℕ) → Changed seg (top_of alpha) t j (values_of pairs) at
+      (run (from_bits seg) (changed (top_of alpha) t 8 0 (values_of before)) (spot (place c) b))
 
 abbrev pub invariant-loop-j : goal.invariant-loop-j
-invariant-loop-j l = State l.alpha l.lookup l.sorted l.seg (cursor_at l.bits0 l.have0 l.next0) l.initial.states l.states (cursor_at l.bits l.have l.next) l.word l.shift l.j
+invariant-loop-j l = State l.alpha l.lookup l.sorted l.seg (cursor_at l.bits0 l.have0 l.next0) l.initial.states l.states
+    (cursor_at l.bits l.have l.next) l.word l.shift l.j
 
 abbrev pub decreases-loop-j : goal.decreases-loop-j
 decreases-loop-j l = 8 - l.j

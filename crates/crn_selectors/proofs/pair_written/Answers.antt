@@ -21,7 +21,8 @@ overflow_cast-result c =
     omega arith
 
 pub returns-then-alpha : goal.returns-then-alpha
-returns-then-alpha c = rw c.if-alpha.true (ap₂ (λ (a b : ℕ). a + 8 * b) (rw c.if-alpha.true at c.written-low.ensures.0) (rw c.if-alpha.true at c.written-high.ensures.0))
+returns-then-alpha c = rw c.if-alpha.true (ap₂ (λ (a b : ℕ). a + 8 * b) (rw c.if-alpha.true at c.written-low.ensures.0)
+    (rw c.if-alpha.true at c.written-high.ensures.0))
 
 pub overflow_mul-result-2 : goal.overflow_mul-result-2
 overflow_mul-result-2 c = let h : c.written-high.result < 4 = rw c.if-alpha.false at c.written-high.ensures.1 in omega arith
@@ -39,4 +40,5 @@ overflow_cast-result-2 c =
     omega arith
 
 pub returns : goal.returns
-returns c = rw c.if-alpha.false (ap₂ (λ (a b : ℕ). a + 4 * b) (rw c.if-alpha.false at c.written-low.ensures.0) (rw c.if-alpha.false at c.written-high.ensures.0))
+returns c = rw c.if-alpha.false (ap₂ (λ (a b : ℕ). a + 4 * b) (rw c.if-alpha.false at c.written-low.ensures.0)
+    (rw c.if-alpha.false at c.written-high.ensures.0))

@@ -12,7 +12,8 @@ loop-p-init c = (length-replicate {A = ℕ} 128 0, λ k l. absurd (omega arith))
 
 pub loop-p-preserved : goal.loop-p-preserved
 loop-p-preserved c =
-    (length-set c.loop-p.out c.loop-p.p c.pair_written.result ∙ c.loop-p.invariant.0, table_more (λ k v. v ≡ written_pair c.args.alpha k) c.loop-p.out c.loop-p.p _ (omega (arith, c.loop-p.invariant.0)) c.loop-p.invariant.1 c.pair_written.ensures)
+    (length-set c.loop-p.out c.loop-p.p c.pair_written.result ∙ c.loop-p.invariant.0, table_more (λ k v. v ≡ written_pair c.args.alpha k)
+        c.loop-p.out c.loop-p.p _ (omega (arith, c.loop-p.invariant.0)) c.loop-p.invariant.1 c.pair_written.ensures)
 
 pub returns : goal.returns
 returns c = λ k l. c.loop-p.invariant.1 k (omega arith)

@@ -27,5 +27,6 @@ pub returns : goal.returns
 returns c =
     let some : Enough c.args.seg.now c.args.c 16 = λ few. omega (arith, c.if-c-lt16.false) in
     let l = entry_length c.requires.holds some c.requires.usable _ refl c.if-e-eq0.false in
-    let r = entry_found c.requires.holds some c.requires.usable _ refl c.if-e-eq0.false (omega (arith, l, c.requires.usable.few, c.if-c-lt16.false)) in
+    let r = entry_found c.requires.holds some c.requires.usable _ refl c.if-e-eq0.false
+        (omega (arith, l, c.requires.usable.few, c.if-c-lt16.false)) in
     λ ls d. takes-symbol r d

@@ -11,7 +11,8 @@ returns-then-c-n c =
 
 pub overflow_cast-result : goal.overflow_cast-result
 overflow_cast-result c =
-    omega (arith, number_is c.requires.holds c.requires.enough c.requires.n_in, field-small c.args.seg.now (place c.args.c) c.args.n c.requires.n_in)
+    omega (arith, number_is c.requires.holds c.requires.enough c.requires.n_in, field-small c.args.seg.now (place c.args.c) c.args.n
+        c.requires.n_in)
 
 pub returns : goal.returns
 returns c =

@@ -9,4 +9,5 @@ pub returns-then-n-seg : goal.returns-then-n-seg
 returns-then-n-seg c =
     let a = c.args in
     let h = c.requires in
-    filled (7 - a.c.have / 8) h c.eight_bytes.ensures (omega (arith, h.some)) (omega arith) (omega arith) (omega arith) (λ q. absurd (omega arith))
+    filled (7 - a.c.have / 8) h c.eight_bytes.ensures (omega (arith, h.some)) (omega arith) (omega arith) (omega arith)
+        (λ q. absurd (omega arith))

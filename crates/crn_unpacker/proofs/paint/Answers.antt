@@ -27,7 +27,9 @@ returns-in_default c =
     let g = c.args.g in
     let h : row_start g (c.loop-face.face + 1) 0 ≤ row_start g g.faces 0 = face_later g (omega (arith, c.loop-face-test.true)) in
     stop-early (omega (arith, h, face-last g)) c.in_default.is ((let it : Goes ((let a = c.args in
-    given a.lookup.now a.sorted.now a.seg.now a.cends.now a.csels.now a.aends.now a.asels.now a.ps a.g)) 0 (row_start c.args.g (c.loop-face.face + 1) 0) none c.args.s c.args.dst.now c.face_rows-w.new.dst c.face_rows-w.result = (let g = c.args.g in
+    given a.lookup.now a.sorted.now a.seg.now a.cends.now a.csels.now a.aends.now a.asels.now a.ps a.g)) 0
+        (row_start c.args.g (c.loop-face.face + 1) 0) none c.args.s c.args.dst.now c.face_rows-w.new.dst c.face_rows-w.result =
+        (let g = c.args.g in
     let face = c.loop-face.face in
     carry c.requires.fit.room (omega arith) (face_later g (omega arith)) c.loop-face.invariant.1
     (respell refl (face-next g face) refl c.face_rows-w.ensures)) in it))
@@ -40,7 +42,9 @@ loop-face-smaller c = omega (arith, c.loop-face-test.true)
 
 pub loop-face-preserved : goal.loop-face-preserved
 loop-face-preserved c = (omega (arith, c.loop-face-test.true), respell refl refl c.in-On.is ((let it : Goes ((let a = c.args in
-    given a.lookup.now a.sorted.now a.seg.now a.cends.now a.csels.now a.aends.now a.asels.now a.ps a.g)) 0 (row_start c.args.g (c.loop-face.face + 1) 0) none c.args.s c.args.dst.now c.face_rows-w.new.dst c.face_rows-w.result = (let g = c.args.g in
+    given a.lookup.now a.sorted.now a.seg.now a.cends.now a.csels.now a.aends.now a.asels.now a.ps a.g)) 0
+        (row_start c.args.g (c.loop-face.face + 1) 0) none c.args.s c.args.dst.now c.face_rows-w.new.dst c.face_rows-w.result =
+        (let g = c.args.g in
     let face = c.loop-face.face in
     carry c.requires.fit.room (omega arith) (face_later g (omega arith)) c.loop-face.invariant.1
     (respell refl (face-next g face) refl c.face_rows-w.ensures)) in it)))

@@ -13,7 +13,8 @@ returns-then-not-is_code c =
     simp (le-leb _ _ h, sym c.is_code.ensures ∙ c.if-not-is_code.true)
 
 pub build-requires : goal.build-requires
-build-requires c = record { lengths_len_bound = (search rules, code_fits _ (sym c.is_code.ensures ∙ c.if-not-is_code.false)); most_nonzero = search rules }
+build-requires c = record { lengths_len_bound = (search rules, code_fits _ (sym c.is_code.ensures ∙ c.if-not-is_code.false)); most_nonzero =
+    search rules }
 
 pub returns : goal.returns
 returns c =

@@ -50,13 +50,15 @@ loop-level-init c =
     }
 
 pub slice_bounds-unpack_made-count : goal.slice_bounds-unpack_made-count
-slice_bounds-unpack_made-count c = omega (arith, ((let it : Here c.args.h c.loop-level.from c.level_sizes-z.result.distance c.level_sizes-z.result.symbols c.loop-level.level (length c.loop-level.dst) = (let within = c.requires.tabled.made.within in
+slice_bounds-unpack_made-count c = omega (arith, ((let it : Here c.args.h c.loop-level.from c.level_sizes-z.result.distance
+    c.level_sizes-z.result.symbols c.loop-level.level (length c.loop-level.dst) = (let within = c.requires.tabled.made.within in
     let number : c.loop-level.level < c.args.h.levels = omega (arith, c.loop-level-test.true) in
     record {
       number = number;
       bytes = distance_so c.args.h within c.loop-level.level number c.level_sizes-z.ensures;
       room =
-          room_for c.args.h within c.args.head (length c.loop-level.dst) c.requires.step_same (omega (arith, c.requires.room, c.loop-level.invariant.long))
+          room_for c.args.h within c.args.head (length c.loop-level.dst) c.requires.step_same
+              (omega (arith, c.requires.room, c.loop-level.invariant.long))
           c.loop-level.invariant.place
           number;
       few = symbols-few c.args.h c.loop-level.level within (lt-ltb _ _ number) c.level_sizes-z.ensures;
@@ -64,13 +66,15 @@ slice_bounds-unpack_made-count c = omega (arith, ((let it : Here c.args.h c.loop
     }) in it)).room)
 
 pub slice_bounds-unpack_made-start : goal.slice_bounds-unpack_made-start
-slice_bounds-unpack_made-start c = omega (arith, ((let it : Here c.args.h c.loop-level.from c.level_sizes-z.result.distance c.level_sizes-z.result.symbols c.loop-level.level (length c.loop-level.dst) = (let within = c.requires.tabled.made.within in
+slice_bounds-unpack_made-start c = omega (arith, ((let it : Here c.args.h c.loop-level.from c.level_sizes-z.result.distance
+    c.level_sizes-z.result.symbols c.loop-level.level (length c.loop-level.dst) = (let within = c.requires.tabled.made.within in
     let number : c.loop-level.level < c.args.h.levels = omega (arith, c.loop-level-test.true) in
     record {
       number = number;
       bytes = distance_so c.args.h within c.loop-level.level number c.level_sizes-z.ensures;
       room =
-          room_for c.args.h within c.args.head (length c.loop-level.dst) c.requires.step_same (omega (arith, c.requires.room, c.loop-level.invariant.long))
+          room_for c.args.h within c.args.head (length c.loop-level.dst) c.requires.step_same
+              (omega (arith, c.requires.room, c.loop-level.invariant.long))
           c.loop-level.invariant.place
           number;
       few = symbols-few c.args.h c.loop-level.level within (lt-ltb _ _ number) c.level_sizes-z.ensures;
@@ -78,13 +82,15 @@ slice_bounds-unpack_made-start c = omega (arith, ((let it : Here c.args.h c.loop
     }) in it)).room)
 
 pub slice_bounds-unpack_made-end : goal.slice_bounds-unpack_made-end
-slice_bounds-unpack_made-end c = omega (arith, ((let it : Here c.args.h c.loop-level.from c.level_sizes-z.result.distance c.level_sizes-z.result.symbols c.loop-level.level (length c.loop-level.dst) = (let within = c.requires.tabled.made.within in
+slice_bounds-unpack_made-end c = omega (arith, ((let it : Here c.args.h c.loop-level.from c.level_sizes-z.result.distance
+    c.level_sizes-z.result.symbols c.loop-level.level (length c.loop-level.dst) = (let within = c.requires.tabled.made.within in
     let number : c.loop-level.level < c.args.h.levels = omega (arith, c.loop-level-test.true) in
     record {
       number = number;
       bytes = distance_so c.args.h within c.loop-level.level number c.level_sizes-z.ensures;
       room =
-          room_for c.args.h within c.args.head (length c.loop-level.dst) c.requires.step_same (omega (arith, c.requires.room, c.loop-level.invariant.long))
+          room_for c.args.h within c.args.head (length c.loop-level.dst) c.requires.step_same
+              (omega (arith, c.requires.room, c.loop-level.invariant.long))
           c.loop-level.invariant.place
           number;
       few = symbols-few c.args.h c.loop-level.level within (lt-ltb _ _ number) c.level_sizes-z.ensures;
@@ -95,17 +101,20 @@ pub unpack_made-u-requires : goal.unpack_made-u-requires
 unpack_made-u-requires c = c.requires.tabled
 
 pub overflow_sub-symbols : goal.overflow_sub-symbols
-overflow_sub-symbols c = omega (arith, (let it : c.unpack_made-u.new.budget ≤ c.level_sizes-z.result.symbols = (omega (arith, (c.unpack_made-u.ensures c.requires.tabled.of c.requires.tabled.made).spent)) in it))
+overflow_sub-symbols c = omega (arith, (let it : c.unpack_made-u.new.budget ≤ c.level_sizes-z.result.symbols =
+    (omega (arith, (c.unpack_made-u.ensures c.requires.tabled.of c.requires.tabled.made).spent)) in it))
 
 pub overflow_add-symbols : goal.overflow_add-symbols
 overflow_add-symbols c =
-    let w : Here c.args.h c.loop-level.from c.level_sizes-z.result.distance c.level_sizes-z.result.symbols c.loop-level.level (length c.loop-level.dst) = let within = c.requires.tabled.made.within in
+    let w : Here c.args.h c.loop-level.from c.level_sizes-z.result.distance c.level_sizes-z.result.symbols c.loop-level.level
+        (length c.loop-level.dst) = let within = c.requires.tabled.made.within in
     let number : c.loop-level.level < c.args.h.levels = omega (arith, c.loop-level-test.true) in
     record {
       number = number;
       bytes = distance_so c.args.h within c.loop-level.level number c.level_sizes-z.ensures;
       room =
-          room_for c.args.h within c.args.head (length c.loop-level.dst) c.requires.step_same (omega (arith, c.requires.room, c.loop-level.invariant.long))
+          room_for c.args.h within c.args.head (length c.loop-level.dst) c.requires.step_same
+              (omega (arith, c.requires.room, c.loop-level.invariant.long))
           c.loop-level.invariant.place
           number;
       few = symbols-few c.args.h c.loop-level.level within (lt-ltb _ _ number) c.level_sizes-z.ensures;
@@ -113,7 +122,8 @@ overflow_add-symbols c =
     } in
     omega (
       arith,
-      (let it : c.unpack_made-u.new.budget ≤ c.level_sizes-z.result.symbols = (omega (arith, (c.unpack_made-u.ensures c.requires.tabled.of c.requires.tabled.made).spent)) in it),
+      (let it : c.unpack_made-u.new.budget ≤ c.level_sizes-z.result.symbols =
+          (omega (arith, (c.unpack_made-u.ensures c.requires.tabled.of c.requires.tabled.made).spent)) in it),
       c.loop-level.invariant.drawn,
       w.few,
       w.levels,
@@ -121,7 +131,9 @@ overflow_add-symbols c =
     )
 
 pub shape_of-dst-in_default : goal.shape_of-dst-in_default
-shape_of-dst-in_default c = c.clear.auto.dst ∙ (let it : length (put_mid c.loop-level.from (length c.loop-level.dst - c.loop-level.from) c.loop-level.dst c.unpack_made-u.new.dst) ≡ length c.args.dst.now = (same_len_mid c.loop-level.from (length c.loop-level.dst - c.loop-level.from) c.loop-level.dst c.unpack_made-u.new.dst
+shape_of-dst-in_default c = c.clear.auto.dst ∙ (let it : length (put_mid c.loop-level.from (length c.loop-level.dst - c.loop-level.from)
+    c.loop-level.dst c.unpack_made-u.new.dst) ≡ length c.args.dst.now =
+    (same_len_mid c.loop-level.from (length c.loop-level.dst - c.loop-level.from) c.loop-level.dst c.unpack_made-u.new.dst
     c.unpack_made-u.auto.dst ∙ c.loop-level.invariant.long) in it)
 
 pub returns-in_default : goal.returns-in_default
@@ -136,18 +148,23 @@ returns-in_default c =
       arith,
       c.loop-level-test.true,
     )) c.level_sizes-z.ensures c.loop-level.invariant.place
-    (rest-whole c.loop-level.from c.loop-level.dst) c.requires.step_same (rw c.in_default.is at (c.unpack_made-u.ensures t m))) ∙ c.loop-level.invariant.goes t m)
-    c.clear.ensures ((let it : length (put_mid c.loop-level.from (length c.loop-level.dst - c.loop-level.from) c.loop-level.dst c.unpack_made-u.new.dst) ≡ length c.args.dst.now = (same_len_mid c.loop-level.from (length c.loop-level.dst - c.loop-level.from) c.loop-level.dst c.unpack_made-u.new.dst
+    (rest-whole c.loop-level.from c.loop-level.dst) c.requires.step_same (rw c.in_default.is at (c.unpack_made-u.ensures t m))) ∙
+        c.loop-level.invariant.goes t m)
+    c.clear.ensures ((let it : length (put_mid c.loop-level.from (length c.loop-level.dst - c.loop-level.from) c.loop-level.dst
+        c.unpack_made-u.new.dst) ≡ length c.args.dst.now = (same_len_mid c.loop-level.from (length c.loop-level.dst - c.loop-level.from)
+        c.loop-level.dst c.unpack_made-u.new.dst
     c.unpack_made-u.auto.dst ∙ c.loop-level.invariant.long) in it))
 
 pub overflow_add-level : goal.overflow_add-level
-overflow_add-level c = let w : Here c.args.h c.loop-level.from c.level_sizes-z.result.distance c.level_sizes-z.result.symbols c.loop-level.level (length c.loop-level.dst) = let within = c.requires.tabled.made.within in
+overflow_add-level c = let w : Here c.args.h c.loop-level.from c.level_sizes-z.result.distance c.level_sizes-z.result.symbols
+    c.loop-level.level (length c.loop-level.dst) = let within = c.requires.tabled.made.within in
     let number : c.loop-level.level < c.args.h.levels = omega (arith, c.loop-level-test.true) in
     record {
       number = number;
       bytes = distance_so c.args.h within c.loop-level.level number c.level_sizes-z.ensures;
       room =
-          room_for c.args.h within c.args.head (length c.loop-level.dst) c.requires.step_same (omega (arith, c.requires.room, c.loop-level.invariant.long))
+          room_for c.args.h within c.args.head (length c.loop-level.dst) c.requires.step_same
+              (omega (arith, c.requires.room, c.loop-level.invariant.long))
           c.loop-level.invariant.place
           number;
       few = symbols-few c.args.h c.loop-level.level within (lt-ltb _ _ number) c.level_sizes-z.ensures;
@@ -156,13 +173,15 @@ overflow_add-level c = let w : Here c.args.h c.loop-level.from c.level_sizes-z.r
 
 pub overflow_add-from : goal.overflow_add-from
 overflow_add-from c =
-    let w : Here c.args.h c.loop-level.from c.level_sizes-z.result.distance c.level_sizes-z.result.symbols c.loop-level.level (length c.loop-level.dst) = let within = c.requires.tabled.made.within in
+    let w : Here c.args.h c.loop-level.from c.level_sizes-z.result.distance c.level_sizes-z.result.symbols c.loop-level.level
+        (length c.loop-level.dst) = let within = c.requires.tabled.made.within in
     let number : c.loop-level.level < c.args.h.levels = omega (arith, c.loop-level-test.true) in
     record {
       number = number;
       bytes = distance_so c.args.h within c.loop-level.level number c.level_sizes-z.ensures;
       room =
-          room_for c.args.h within c.args.head (length c.loop-level.dst) c.requires.step_same (omega (arith, c.requires.room, c.loop-level.invariant.long))
+          room_for c.args.h within c.args.head (length c.loop-level.dst) c.requires.step_same
+              (omega (arith, c.requires.room, c.loop-level.invariant.long))
           c.loop-level.invariant.place
           number;
       few = symbols-few c.args.h c.loop-level.level within (lt-ltb _ _ number) c.level_sizes-z.ensures;
@@ -178,13 +197,15 @@ overflow_add-from c =
 
 pub overflow_add-cutouts : goal.overflow_add-cutouts
 overflow_add-cutouts c =
-    let w : Here c.args.h c.loop-level.from c.level_sizes-z.result.distance c.level_sizes-z.result.symbols c.loop-level.level (length c.loop-level.dst) = let within = c.requires.tabled.made.within in
+    let w : Here c.args.h c.loop-level.from c.level_sizes-z.result.distance c.level_sizes-z.result.symbols c.loop-level.level
+        (length c.loop-level.dst) = let within = c.requires.tabled.made.within in
     let number : c.loop-level.level < c.args.h.levels = omega (arith, c.loop-level-test.true) in
     record {
       number = number;
       bytes = distance_so c.args.h within c.loop-level.level number c.level_sizes-z.ensures;
       room =
-          room_for c.args.h within c.args.head (length c.loop-level.dst) c.requires.step_same (omega (arith, c.requires.room, c.loop-level.invariant.long))
+          room_for c.args.h within c.args.head (length c.loop-level.dst) c.requires.step_same
+              (omega (arith, c.requires.room, c.loop-level.invariant.long))
           c.loop-level.invariant.place
           number;
       few = symbols-few c.args.h c.loop-level.level within (lt-ltb _ _ number) c.level_sizes-z.ensures;
@@ -205,13 +226,15 @@ loop-level-smaller c = omega (arith, c.loop-level-test.true)
 
 pub loop-level-preserved : goal.loop-level-preserved
 loop-level-preserved c =
-    let w : Here c.args.h c.loop-level.from c.level_sizes-z.result.distance c.level_sizes-z.result.symbols c.loop-level.level (length c.loop-level.dst) = let within = c.requires.tabled.made.within in
+    let w : Here c.args.h c.loop-level.from c.level_sizes-z.result.distance c.level_sizes-z.result.symbols c.loop-level.level
+        (length c.loop-level.dst) = let within = c.requires.tabled.made.within in
     let number : c.loop-level.level < c.args.h.levels = omega (arith, c.loop-level-test.true) in
     record {
       number = number;
       bytes = distance_so c.args.h within c.loop-level.level number c.level_sizes-z.ensures;
       room =
-          room_for c.args.h within c.args.head (length c.loop-level.dst) c.requires.step_same (omega (arith, c.requires.room, c.loop-level.invariant.long))
+          room_for c.args.h within c.args.head (length c.loop-level.dst) c.requires.step_same
+              (omega (arith, c.requires.room, c.loop-level.invariant.long))
           c.loop-level.invariant.place
           number;
       few = symbols-few c.args.h c.loop-level.level within (lt-ltb _ _ number) c.level_sizes-z.ensures;
@@ -220,10 +243,13 @@ loop-level-preserved c =
     record {
       few = omega (arith, w.number);
       place = omega (arith, c.loop-level.invariant.place, w.bytes, chain-after (picture_of c.args.h) c.loop-level.level);
-      long = (let it : length (put_mid c.loop-level.from (length c.loop-level.dst - c.loop-level.from) c.loop-level.dst c.unpack_made-u.new.dst) ≡ length c.args.dst.now = (same_len_mid c.loop-level.from (length c.loop-level.dst - c.loop-level.from) c.loop-level.dst c.unpack_made-u.new.dst
+      long = (let it : length (put_mid c.loop-level.from (length c.loop-level.dst - c.loop-level.from) c.loop-level.dst
+          c.unpack_made-u.new.dst) ≡ length c.args.dst.now = (same_len_mid c.loop-level.from (length c.loop-level.dst - c.loop-level.from)
+          c.loop-level.dst c.unpack_made-u.new.dst
     c.unpack_made-u.auto.dst ∙ c.loop-level.invariant.long) in it);
       drawn = omega (arith, c.loop-level.invariant.drawn, w.few);
-      cut = omega (arith, c.loop-level.invariant.cut, (let it : c.in-Blocks.cut ≤ most_cutouts = (few_cuts (record_with c.args.h c.requires.tabled.of) _ _ _ _ _ _ _
+      cut = omega (arith, c.loop-level.invariant.cut, (let it : c.in-Blocks.cut ≤ most_cutouts =
+          (few_cuts (record_with c.args.h c.requires.tabled.of) _ _ _ _ _ _ _
     (rw c.in-Blocks.is at (c.unpack_made-u.ensures
     c.requires.tabled.of c.requires.tabled.made))) in it));
       goes = λ t m.

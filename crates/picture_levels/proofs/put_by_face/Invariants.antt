@@ -39,7 +39,8 @@ pub record Going (h : Header) (s : Sizes) (lookup sorted file : List ℕ) (p : P
       ≡ put_from h.levels (by_face head (picture_of h)) (record_with h t) file p 0 nothing dst₀
 
 abbrev pub invariant-loop-level : goal.invariant-loop-level
-invariant-loop-level l = Going l.h l.s l.lookup l.sorted l.file (lent_of l.color_endpoints l.color_selectors l.alpha_endpoints l.alpha_selectors) l.head l.initial.dst l.dst l.level l.from l.symbols
+invariant-loop-level l = Going l.h l.s l.lookup l.sorted l.file (lent_of l.color_endpoints l.color_selectors l.alpha_endpoints
+    l.alpha_selectors) l.head l.initial.dst l.dst l.level l.from l.symbols
     l.cutouts
 
 abbrev pub decreases-loop-level : goal.decreases-loop-level

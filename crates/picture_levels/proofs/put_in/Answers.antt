@@ -11,7 +11,8 @@ use Rattle.picture_levels.proofs.put_in.Goals as goal
 pub put_by_face-requires : goal.put_by_face-requires
 put_by_face-requires c =
     record { tabled = record { of = ((record_by c.args.h c.args.counts c.args.chunk.now c.args.color_ends.now c.args.color_sels.now
-    c.args.alpha_ends.now c.args.alpha_sels.now)).tables; made = (let it : Made ((record_by c.args.h c.args.counts c.args.chunk.now c.args.color_ends.now c.args.color_sels.now
+    c.args.alpha_ends.now c.args.alpha_sels.now)).tables; made =
+        (let it : Made ((record_by c.args.h c.args.counts c.args.chunk.now c.args.color_ends.now c.args.color_sels.now
     c.args.alpha_ends.now c.args.alpha_sels.now)) c.args.s c.make_tables.new.lookup c.make_tables.new.sorted = (record {
       within = c.requires.within_limits;
       tables = c.requires.tables_hold;
@@ -24,7 +25,8 @@ put_by_face-requires c =
 
 pub returns : goal.returns
 returns c = c.put_by_face.ensures ((record_by c.args.h c.args.counts c.args.chunk.now c.args.color_ends.now c.args.color_sels.now
-    c.args.alpha_ends.now c.args.alpha_sels.now)).tables ((let it : Made ((record_by c.args.h c.args.counts c.args.chunk.now c.args.color_ends.now c.args.color_sels.now
+    c.args.alpha_ends.now c.args.alpha_sels.now)).tables ((let it : Made
+        ((record_by c.args.h c.args.counts c.args.chunk.now c.args.color_ends.now c.args.color_sels.now
     c.args.alpha_ends.now c.args.alpha_sels.now)) c.args.s c.make_tables.new.lookup c.make_tables.new.sorted = (record {
       within = c.requires.within_limits;
       tables = c.requires.tables_hold;

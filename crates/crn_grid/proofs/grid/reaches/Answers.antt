@@ -27,7 +27,8 @@ returns-then-holds c =
     let rows = c.rows_of-rows.ensures.0 a.pitch a.distance in
     let row = c.row_bytes-row.ensures a.pitch a.distance in
     rw c.but_one.ensures at c.holds-then-holds.ensures
-    ∙ by_faces a.h a.level a.pitch a.distance a.n rows row (omega (arith, leb-true ((c.rows_of-rows.result - 1) * a.pitch) (a.n - c.row_bytes-row.result) (sym c.holds.ensures ∙ c.if-holds.true)))
+    ∙ by_faces a.h a.level a.pitch a.distance a.n rows row (omega
+        (arith, leb-true ((c.rows_of-rows.result - 1) * a.pitch) (a.n - c.row_bytes-row.result) (sym c.holds.ensures ∙ c.if-holds.true)))
 
 pub returns-else-holds : goal.returns-else-holds
 returns-else-holds c =

@@ -9,7 +9,8 @@ pub segment-requires : goal.segment-requires
 segment-requires c = tables-inside c.requires.passed
 
 pub read_tables-sent-requires : goal.read_tables-sent-requires
-read_tables-sent-requires c = record { seg_long = omega (arith, c.segment.ensures.1, file-short c.requires.passed); all_zero = c.requires.all_zero }
+read_tables-sent-requires c = record { seg_long = omega (arith, c.segment.ensures.1, file-short c.requires.passed); all_zero =
+    c.requires.all_zero }
 
 pub returns-then-sent-ne0 : goal.returns-then-sent-ne0
 returns-then-sent-ne0 c =
@@ -19,19 +20,15 @@ returns-then-sent-ne0 c =
 pub read_palettes-ended-requires : goal.read_palettes-ended-requires
 read_palettes-ended-requires c = c.requires.passed
 
--- FIXME given of color-endpoints3; given of color-endpoints2
 pub shape_of-color_endpoints-then-ended-ne0 : goal.shape_of-color_endpoints-then-ended-ne0
 shape_of-color_endpoints-then-ended-ne0 c = omega (arith, c.color_endpoints-then-ended-ne0-1.given, c.color_endpoints-2-1.given)
 
--- FIXME given of color-selectors3; given of color-selectors2
 pub shape_of-color_selectors-then-ended-ne0 : goal.shape_of-color_selectors-then-ended-ne0
 shape_of-color_selectors-then-ended-ne0 c = omega (arith, c.color_selectors-then-ended-ne0-1.given, c.color_selectors-2-1.given)
 
--- FIXME given of alpha-endpoints3; given of alpha-endpoints2
 pub shape_of-alpha_endpoints-then-ended-ne0 : goal.shape_of-alpha_endpoints-then-ended-ne0
 shape_of-alpha_endpoints-then-ended-ne0 c = omega (arith, c.alpha_endpoints-then-ended-ne0-1.given, c.alpha_endpoints-2-1.given)
 
--- FIXME given of alpha-selectors3; given of alpha-selectors2
 pub shape_of-alpha_selectors-then-ended-ne0 : goal.shape_of-alpha_selectors-then-ended-ne0
 shape_of-alpha_selectors-then-ended-ne0 c = omega (arith, c.alpha_selectors-then-ended-ne0-1.given, c.alpha_selectors-2-1.given)
 

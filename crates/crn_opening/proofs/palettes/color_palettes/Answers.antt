@@ -17,7 +17,8 @@ color_endpoints-first-requires c =
     (omega (arith, c.segment.ensures.1, c.requires.short), fits.few, omega (arith, fits.room))
 
 pub returns-then-first-ne0 : goal.returns-then-first-ne0
-returns-then-first-ne0 c = plane_stops _ _ _ _ _ _ _ c.if-ends-eq0.false (color-endpoints_numbered _) (rw c.segment.ensures.0 at c.color_endpoints-first.ensures) c.if-first-ne0.true
+returns-then-first-ne0 c = plane_stops _ _ _ _ _ _ _ c.if-ends-eq0.false (color-endpoints_numbered _)
+    (rw c.segment.ensures.0 at c.color_endpoints-first.ensures) c.if-first-ne0.true
 
 pub segment-requires-2 : goal.segment-requires-2
 segment-requires-2 c = (c.requires.second (omega (arith, c.if-ends-eq0.false))).inside

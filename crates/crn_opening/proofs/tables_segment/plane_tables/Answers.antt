@@ -15,7 +15,8 @@ returns-then-first-ne0 c = rw (c.if-not-there.false) (first-refused c.receive-fi
 
 pub receive-second-requires : goal.receive-second-requires
 receive-second-requires c =
-    record { holds = (c.receive-first.ensures.goes c.if-first-ne0.false).0; seg_long = c.requires.seg_long; lengths_zero = c.requires.both_zero.1 }
+    record { holds = (c.receive-first.ensures.goes c.if-first-ne0.false).0; seg_long = c.requires.seg_long; lengths_zero =
+        c.requires.both_zero.1 }
 
 pub returns : goal.returns
 returns c =

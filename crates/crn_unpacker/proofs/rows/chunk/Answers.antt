@@ -5,16 +5,16 @@ use Rattle.crn_chunk_blocks.proofs.Ranges.{filled}
 use Rattle.crn_unpacker.proofs.Steps.{chunk-goes, chunk-stops}
 use Rattle.crn_unpacker.proofs.rows.chunk.Goals as goal
 
--- FIXME given of a2; given of a2
 pub blocks-requires : goal.blocks-requires
 blocks-requires c =
-    record { placeable = record { bytes = c.requires.fit.bytes; room = c.requires.fit.room; known = (c.read_chunk-a.ensures.on _ _ _ c.in-Read.is).1 }; covered = c.requires.covered; sides = (refl, refl); all_filled = filled c.read_chunk-a.ensures c.in-Read.is c.requires.fit.served _ c.requires.fit.reach }
+    record { placeable = record { bytes = c.requires.fit.bytes; room = c.requires.fit.room; known =
+        (c.read_chunk-a.ensures.on _ _ _ c.in-Read.is).1 }; covered = c.requires.covered; sides = (refl, refl); all_filled = filled
+        c.read_chunk-a.ensures c.in-Read.is c.requires.fit.served _ c.requires.fit.reach }
 
 pub returns-in-Refused : goal.returns-in-Refused
 returns-in-Refused c =
     chunk-stops _ c.args.face c.args.cx c.args.cy c.requires.covered c.read_chunk-a.ensures c.in-Refused.is
 
--- FIXME given of a2
 pub returns-in-Read : goal.returns-in-Read
 returns-in-Read c =
     chunk-goes _ c.args.face c.args.cx c.args.cy c.requires.covered c.read_chunk-a.ensures c.in-Read.is c.blocks-in-Read.ensures

@@ -32,8 +32,11 @@ shape_of-dst-in_default c = c.chunk-w.auto.dst ∙ c.loop-k.invariant.1.long
 
 pub returns-in_default : goal.returns-in_default
 returns-in_default c =
-    stop-early (omega (arith, row_next c.args.g c.args.face c.args.cy, c.loop-k-test.true)) c.in_default.is ((let it : Goes ((let a = c.args in
-    given a.lookup.now a.sorted.now a.seg.now a.cends.now a.csels.now a.aends.now a.asels.now a.ps a.g)) ((row_start c.args.g c.args.face c.args.cy)) ((row_start c.args.g c.args.face c.args.cy) + (c.loop-k.k + 1)) c.args.r c.args.s c.args.dst.now c.chunk-w.new.dst c.chunk-w.result = (let k = c.loop-k.k in
+    stop-early (omega (arith, row_next c.args.g c.args.face c.args.cy, c.loop-k-test.true)) c.in_default.is
+        ((let it : Goes ((let a = c.args in
+    given a.lookup.now a.sorted.now a.seg.now a.cends.now a.csels.now a.aends.now a.asels.now a.ps a.g))
+        ((row_start c.args.g c.args.face c.args.cy)) ((row_start c.args.g c.args.face c.args.cy) + (c.loop-k.k + 1)) c.args.r c.args.s
+        c.args.dst.now c.chunk-w.new.dst c.chunk-w.result = (let k = c.loop-k.k in
     let cx = c.column-cx.result in
     let e : chunk_number c.args.g c.args.face cx c.args.cy ≡ (row_start c.args.g c.args.face c.args.cy) + k =
     chunk-number c.args.g c.args.face k c.args.cy cx c.args.turned c.requires.row_in.2 c.loop-k-test.true
@@ -49,7 +52,9 @@ loop-k-smaller c = omega (arith, c.loop-k-test.true)
 
 pub loop-k-preserved : goal.loop-k-preserved
 loop-k-preserved c = (omega (arith, c.loop-k-test.true), respell refl refl c.in-On.is ((let it : Goes ((let a = c.args in
-    given a.lookup.now a.sorted.now a.seg.now a.cends.now a.csels.now a.aends.now a.asels.now a.ps a.g)) ((row_start c.args.g c.args.face c.args.cy)) ((row_start c.args.g c.args.face c.args.cy) + (c.loop-k.k + 1)) c.args.r c.args.s c.args.dst.now c.chunk-w.new.dst c.chunk-w.result = (let k = c.loop-k.k in
+    given a.lookup.now a.sorted.now a.seg.now a.cends.now a.csels.now a.aends.now a.asels.now a.ps a.g))
+        ((row_start c.args.g c.args.face c.args.cy)) ((row_start c.args.g c.args.face c.args.cy) + (c.loop-k.k + 1)) c.args.r c.args.s
+        c.args.dst.now c.chunk-w.new.dst c.chunk-w.result = (let k = c.loop-k.k in
     let cx = c.column-cx.result in
     let e : chunk_number c.args.g c.args.face cx c.args.cy ≡ (row_start c.args.g c.args.face c.args.cy) + k =
     chunk-number c.args.g c.args.face k c.args.cy cx c.args.turned c.requires.row_in.2 c.loop-k-test.true

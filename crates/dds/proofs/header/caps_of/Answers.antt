@@ -9,15 +9,15 @@ returns-then-h-gt1 c = simp (lt-ltb 1 c.args.h.levels (omega (arith, c.if-h-gt1.
 pub returns-then-h-eq6 : goal.returns-then-h-eq6
 returns-then-h-eq6 c =
     simp (
-  le-ltb 1 c.args.h.levels (omega (arith, c.if-h-gt1.false)),
-  eq-eqb
-      c.args.h.faces 6 c.if-h-eq6.true,
-)
+      le-ltb 1 c.args.h.levels (omega (arith, c.if-h-gt1.false)),
+      eq-eqb
+          c.args.h.faces 6 c.if-h-eq6.true,
+    )
 
 pub returns : goal.returns
 returns c =
     simp (
-  le-ltb 1 c.args.h.levels (omega (arith, c.if-h-gt1.false)),
-  ne_eqb
-      c.args.h.faces 6 c.if-h-eq6.false,
-)
+      le-ltb 1 c.args.h.levels (omega (arith, c.if-h-gt1.false)),
+      ne_eqb
+          c.args.h.faces 6 c.if-h-eq6.false,
+    )

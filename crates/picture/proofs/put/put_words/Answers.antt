@@ -21,11 +21,13 @@ pub loop-i-preserved : goal.loop-i-preserved
 loop-i-preserved c =
     (
   omega arith,
-  c.put_word.ensures ∙ ap (λ (d : List ℕ). sets d (c.args.at + 4 * c.loop-i.i) (little 4 (get_or c.args.ws.now c.loop-i.i 0))) c.loop-i.invariant.1 ∙ one_word c.args.dst.now c.args.ws.now c.args.at c.loop-i.i (omega arith),
+  c.put_word.ensures ∙ ap (λ (d : List ℕ). sets d (c.args.at + 4 * c.loop-i.i) (little 4 (get_or c.args.ws.now c.loop-i.i 0)))
+      c.loop-i.invariant.1 ∙ one_word c.args.dst.now c.args.ws.now c.args.at c.loop-i.i (omega arith),
 )
 
 pub shape_of-dst : goal.shape_of-dst
 shape_of-dst c = simp length-sets at (ap length c.loop-i.invariant.1)
 
 pub returns : goal.returns
-returns c = c.loop-i.invariant.1 ∙ ap (λ (l : List ℕ). sets c.args.dst.now c.args.at (words_of l)) (take_all c.loop-i.i c.args.ws.now (omega arith))
+returns c = c.loop-i.invariant.1 ∙ ap (λ (l : List ℕ). sets c.args.dst.now c.args.at (words_of l))
+    (take_all c.loop-i.i c.args.ws.now (omega arith))

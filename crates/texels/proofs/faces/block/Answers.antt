@@ -13,7 +13,8 @@ overflow_add-y c = omega (arith, few c.requires.room c.requires.block)
 
 pub block_texels-r-requires : goal.block_texels-r-requires
 block_texels-r-requires c =
-    record { format_known = c.requires.given.format-known; block_in = block-there c.requires.block (block_bytes (kind_of c.args.format)) c.requires.given.all }
+    record { format_known = c.requires.given.format-known; block_in = block-there c.requires.block (block_bytes (kind_of c.args.format))
+        c.requires.given.all }
 
 pub returns : goal.returns
 returns c =

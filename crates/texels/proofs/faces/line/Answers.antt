@@ -14,7 +14,8 @@ loop-x-init c = (omega arith, skipped _ (λ x y at from to. omega arith))
 
 pub block-requires : goal.block-requires
 block-requires c =
-    record { room = rw c.loop-x.invariant.1.long c.requires.room; block = record { column = c.loop-x-test.true; row = c.requires.y_in }; given = c.requires.given }
+    record { room = rw c.loop-x.invariant.1.long c.requires.room; block = record { column = c.loop-x-test.true; row = c.requires.y_in };
+        given = c.requires.given }
 
 pub overflow_add-x : goal.overflow_add-x
 overflow_add-x c =

@@ -11,7 +11,8 @@ put_stretch-requires c =
 
 pub put_stretch-requires-2 : goal.put_stretch-requires-2
 put_stretch-requires-2 c =
-    record { room = rw c.put_stretch.ensures.long c.requires.room; part = whole_row c.args.s c.args.x c.args.y c.requires.x_whole c.requires.y_whole 1 (omega arith) }
+    record { room = rw c.put_stretch.ensures.long c.requires.room; part = whole_row c.args.s c.args.x c.args.y c.requires.x_whole
+        c.requires.y_whole 1 (omega arith) }
 
 pub put_stretch-requires-3 : goal.put_stretch-requires-3
 put_stretch-requires-3 c =
