@@ -1,7 +1,7 @@
 // Receives code tables and draws symbols, case by case from standard input, and writes a line for each operation. README.md has the format.
 #![tactic(auto)]
 
-ghost use Rattle.std.specs.Prelude.{◌≡◌, ◌+◌, ◌*◌, ◌<◌, ◌≤◌, IfOk, length};
+ghost use Rattle.std.specs.Prelude.{◌≡◌, ◌<◌, ◌≤◌, IfOk, length};
 ghost use Rattle.crn_format.specs.Limits.{max_symbols, too_long};
 ghost use Rattle.crn_symbol_codec.specs.Cursors.{Holds};
 ghost use Rattle.crn_symbol_codec.specs.Decoders.{Decodes};
