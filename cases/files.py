@@ -103,8 +103,8 @@ def lines_of(opened, levels, dds, loads):
 
 
 def held_to_the_program(cases, lines):
-    """Runs target/bin/crn_cases, as `rt check crn_cases` leaves it, on the cases, and says where it writes other lines. True where it does not."""
-    program = os.path.join(here, '..', 'target', 'bin', 'crn_cases')
+    """Runs crates/crn_cases/out/crn_cases, as `rt run` leaves it, on the cases, and says where it writes other lines. True where it does not."""
+    program = os.path.join(here, '..', 'crates', 'crn_cases', 'out', 'crn_cases')
     said = subprocess.run([program], input=bytes_of(cases), stdout=subprocess.PIPE, check=True).stdout.decode().splitlines()
     wrong = [k for k, (a, b) in enumerate(zip(said, lines)) if a != b] + list(range(len(said), len(lines)))
     print('%d lines of the proved program, %d of them not as document 01 says%s' % (len(said), len(wrong), ': ' + str(wrong[:5]) if wrong else ''))

@@ -1,5 +1,5 @@
 #!/usr/bin/env python3
-"""levels.py SHARED COUNT: COUNT levels of files, whole and damaged, unpacked by the proved program (target/bin/crn_cases, as `rt check crn_cases` leaves it), by
+"""levels.py SHARED COUNT: COUNT levels of files, whole and damaged, unpacked by the proved program (crates/crn_cases/out/crn_cases, as `rt run` leaves it), by
 reference.py and by the Rust, and where they differ; and each file written as a DDS file by the first two. stored.py has the gate's cases of
 levels from level_cases.py and of DDS files from dds_cases.py.
 

@@ -1,5 +1,5 @@
 #!/usr/bin/env python3
-"""opens.py SHARED COUNT: COUNT files, whole and damaged, opened by the proved program (target/bin/crn_cases, as `rt check crn_cases` leaves it), by reference.py and by
+"""opens.py SHARED COUNT: COUNT files, whole and damaged, opened by the proved program (crates/crn_cases/out/crn_cases, as `rt run` leaves it), by reference.py and by
 the Rust, and where they differ; and each opened in two calls by the first two, with its own record and with another. stored.py has the
 gate's cases of opening from here."""
 import collections

@@ -2,13 +2,13 @@
 // line for each call. docs/CASES.md has the format.
 #![tactic(auto)]
 
-ghost use Rattle.std.specs.Prelude.{◌≡◌, ◌+◌, ◌<◌, ◌≤◌, length};
+ghost use Rattle.std.specs.Prelude.{◌≡◌, ◌≤◌, IfOk, length};
 
 use crn_edits::edited;
 use crn_format::{Header, Part, Record, Table};
 use crn_formats::Counts;
 use crunch::{Needed, Opened, Unpacked, Written};
-use libc::{STDIN_FILENO, STDOUT_FILENO};
+use std::io::{self, ErrorKind, Read};
 
 // ---- buffers, each with its length in the contract
 
@@ -51,9 +51,17 @@ fn destination_space() -> [u8; 1048576]
 // ---- input
 
 // Whether standard input has enough to fill the buffer.
-fn take(buffer: &mut [u8]) -> bool {
-    let wanted = buffer.len();
-    io::read_full(STDIN_FILENO, buffer) == wanted
+fn take(rt: &impl Input, buffer: &mut [u8]) -> io::Result<bool> {
+    match rt.reader().read_exact(buffer) {
+        Ok(()) => Ok(true),
+        Err(e) => {
+            if e.kind() == ErrorKind::UnexpectedEof {
+                Ok(false)
+            } else {
+                Err(e)
+            }
+        }
+    }
 }
 
 // A number as the input has it; not whole where the input ends too early.
@@ -63,13 +71,13 @@ struct Number {
     value: usize,
 }
 
-fn take_number() -> Number {
+fn take_number(rt: &impl Input) -> io::Result<Number> {
     let mut bytes = [0u8; 4];
-    let whole = take(&mut bytes);
-    Number {
+    let whole = take(rt, &mut bytes)?;
+    Ok(Number {
         whole: whole,
         value: crn_utils::little32(&bytes, 0) as usize,
-    }
+    })
 }
 
 fn fill32(words: &mut [u32], value: u32) {
@@ -207,72 +215,71 @@ fn hash_of_record(r: Record) -> u64 {
 
 // ---- lines
 
-fn text(t: &[u8]) {
-    io::write_all(STDOUT_FILENO, t);
+fn text(rt: &impl Print, t: &[u8]) -> io::Result<()> {
+    rt.write_all(t)
 }
 
-fn hash_after_space(h: u64) {
-    text(b" ");
-    io::print_hex(STDOUT_FILENO, h, 16);
+fn hash_after_space(rt: &impl Print, h: u64) -> io::Result<()> {
+    print!(rt; " {h:016x}")
 }
 
-fn number_after_space(n: u64) {
-    text(b" ");
-    io::print_decimal(STDOUT_FILENO, n);
+fn number_after_space(rt: &impl Print, n: u64) -> io::Result<()> {
+    print!(rt; " {n}")
 }
 
 // What opening or loading answered, what the four buffers hold, and the record.
 fn line(
+    rt: &impl Print,
     word: &[u8],
     o: Opened,
     color_endpoints: &[u32],
     color_selectors: &[u32],
     alpha_endpoints: &[u16],
     alpha_selectors: &[u16],
-) {
+) -> io::Result<()> {
     let r = o.file;
     let mut k = hash_of32(color_endpoints, fnv::OFFSET);
     k = hash_of32(color_selectors, k);
     k = hash_of16(alpha_endpoints, k);
     k = hash_of16(alpha_selectors, k);
-    text(word);
-    number_after_space(o.refusal as u64);
-    hash_after_space(k);
-    hash_after_space(hash_of_record(r));
-    text(b"\n");
+    text(rt, word)?;
+    number_after_space(rt, o.refusal as u64)?;
+    hash_after_space(rt, k)?;
+    hash_after_space(rt, hash_of_record(r))?;
+    text(rt, b"\n")
 }
 
 // What unpacking a level answered, what is left of the budget, and what the destination holds.
-fn level_line(u: Unpacked, left: u64, dst: &[u8]) {
-    text(b"level");
+fn level_line(rt: &impl Print, u: Unpacked, left: u64, dst: &[u8]) -> io::Result<()> {
+    text(rt, b"level")?;
     match u {
-        Unpacked::Blocks { symbols, cutouts } => numbers(0, symbols, cutouts),
+        Unpacked::Blocks { symbols, cutouts } => numbers(rt, 0, symbols, cutouts)?,
         Unpacked::Refused {
             number,
             symbols,
             at: _,
-        } => numbers(number as u64, symbols, 0),
+        } => numbers(rt, number as u64, symbols, 0)?,
     }
-    number_after_space(left);
-    hash_after_space(hash_of8(dst, fnv::OFFSET));
-    text(b"\n");
+    number_after_space(rt, left)?;
+    hash_after_space(rt, hash_of8(dst, fnv::OFFSET))?;
+    text(rt, b"\n")
 }
 
-fn numbers(a: u64, b: u64, c: u64) {
-    number_after_space(a);
-    number_after_space(b);
-    number_after_space(c);
+fn numbers(rt: &impl Print, a: u64, b: u64, c: u64) -> io::Result<()> {
+    number_after_space(rt, a)?;
+    number_after_space(rt, b)?;
+    number_after_space(rt, c)
 }
 
 // How the writing of a DDS file ended, what the destination holds, and what had to be lent.
-fn dds_line(w: Written, dst: &[u8], n: Needed) {
-    text(b"dds");
-    numbers(w.refusal as u64, w.level as u64, w.at as u64);
-    numbers(w.bytes as u64, w.symbols, w.cutouts);
-    hash_after_space(hash_of8(dst, fnv::OFFSET));
-    number_after_space(n.refusal as u64);
-    number_after_space(n.bytes as u64);
-    text(b"\n");
+fn dds_line(rt: &impl Print, w: Written, dst: &[u8], n: Needed) -> io::Result<()> {
+    text(rt, b"dds")?;
+    numbers(rt, w.refusal as u64, w.level as u64, w.at as u64)?;
+    numbers(rt, w.bytes as u64, w.symbols, w.cutouts)?;
+    hash_after_space(rt, hash_of8(dst, fnv::OFFSET))?;
+    number_after_space(rt, n.refusal as u64)?;
+    number_after_space(rt, n.bytes as u64)?;
+    text(rt, b"\n")
 }
 
 // ---- cases
@@ -292,6 +299,7 @@ fn fill_all(
 
 // A level unpacked into a destination of just the lent length, each byte filled first.
 fn unpack_filled(
+    rt: &impl Print,
     file: Record,
     bytes: &[u8],
     color_endpoints: &[u32],
@@ -301,7 +309,7 @@ fn unpack_filled(
     c: Call,
     value: u8,
     dst: &mut [u8],
-) {
+) -> io::Result<()> {
     let mut left = c.budget;
     fill8(dst, value);
     let u = crunch::unpack_level(
@@ -317,11 +325,12 @@ fn unpack_filled(
         &mut left,
         dst,
     );
-    level_line(u, left, dst);
+    level_line(rt, u, left, dst)
 }
 
 // The next level call, or 1 or 2, as for a case.
 fn level_call(
+    rt: &(impl Input + Print),
     file: Record,
     bytes: &[u8],
     color_endpoints: &[u32],
@@ -330,16 +339,17 @@ fn level_call(
     alpha_selectors: &[u16],
     value: u8,
     space: &mut [u8],
-) -> u32 {
-    let c = take_call();
+) -> io::Result<u32> {
+    let c = take_call(rt)?;
     let n = c.size;
     if !c.whole {
-        return 1;
+        return Ok(1);
     }
     if space.len() < n {
-        return 2;
+        return Ok(2);
     }
     unpack_filled(
+        rt,
         file,
         bytes,
         color_endpoints,
@@ -349,12 +359,13 @@ fn level_call(
         c,
         value,
         &mut space[..n],
-    );
-    0
+    )?;
+    Ok(0)
 }
 
 // A DDS file written into a destination of just the lent length, each byte filled first.
 fn write_filled(
+    rt: &impl Print,
     file: Record,
     bytes: &[u8],
     color_endpoints: &[u32],
@@ -363,7 +374,7 @@ fn write_filled(
     alpha_selectors: &[u16],
     value: u8,
     dst: &mut [u8],
-) {
+) -> io::Result<()> {
     let header = file.header;
     let counts = Counts {
         chunk: file.tables.chunk_encoding.count,
@@ -388,11 +399,12 @@ fn write_filled(
         alpha_selectors,
         dst,
     );
-    dds_line(w, dst, crunch::dds_bytes(header));
+    dds_line(rt, w, dst, crunch::dds_bytes(header))
 }
 
 // The next DDS call, or 1 or 2, as for a case.
 fn dds_call(
+    rt: &(impl Input + Print),
     file: Record,
     bytes: &[u8],
     color_endpoints: &[u32],
@@ -401,16 +413,17 @@ fn dds_call(
     alpha_selectors: &[u16],
     value: u8,
     space: &mut [u8],
-) -> u32 {
-    let t = take_number();
+) -> io::Result<u32> {
+    let t = take_number(rt)?;
     let n = t.value;
     if !t.whole {
-        return 1;
+        return Ok(1);
     }
     if space.len() < n {
-        return 2;
+        return Ok(2);
     }
     write_filled(
+        rt,
         file,
         bytes,
         color_endpoints,
@@ -419,23 +432,24 @@ fn dds_call(
         alpha_selectors,
         value,
         &mut space[..n],
-    );
-    0
+    )?;
+    Ok(0)
 }
 
 // What the look at a file of `length` bytes that begins with the head answers, and its header.
-fn look_and_say(head: &[u8], length: usize) -> Header {
+fn look_and_say(rt: &impl Print, head: &[u8], length: usize) -> io::Result<Header> {
     let l = crunch::look_at(head, length);
     let header = l.header;
-    text(b"look");
-    number_after_space(l.refusal as u64);
-    hash_after_space(hash_of_header(header, fnv::OFFSET));
-    text(b"\n");
-    header
+    text(rt, b"look")?;
+    number_after_space(rt, l.refusal as u64)?;
+    hash_after_space(rt, hash_of_header(header, fnv::OFFSET))?;
+    text(rt, b"\n")?;
+    Ok(header)
 }
 
 // A file loaded with buffers of just the lent lengths, each word filled first.
 fn load_filled(
+    rt: &impl Print,
     header: Header,
     bytes: &[u8],
     color_endpoints: &mut [u32],
@@ -443,7 +457,7 @@ fn load_filled(
     alpha_endpoints: &mut [u16],
     alpha_selectors: &mut [u16],
     value: u8,
-) {
+) -> io::Result<()> {
     fill_all(
         color_endpoints,
         color_selectors,
@@ -460,17 +474,19 @@ fn load_filled(
         alpha_selectors,
     );
     line(
+        rt,
         b"load",
         o,
         color_endpoints,
         color_selectors,
         alpha_endpoints,
         alpha_selectors,
-    );
+    )
 }
 
 // The next load call, or 1 or 2, as for a case. The edits are a record's; the load takes the header of it.
 fn load_call(
+    rt: &(impl Input + Print),
     file: Record,
     bytes: &[u8],
     color_endpoints: &mut [u32],
@@ -478,27 +494,31 @@ fn load_call(
     alpha_endpoints: &mut [u16],
     alpha_selectors: &mut [u16],
     value: u8,
-) -> u32 {
+) -> io::Result<u32> {
     let mut head = head_space();
-    let t = take_sized(&mut head);
+    let t = take_sized(rt, &mut head)?;
     let n = t.size;
     if t.ended != 0 {
-        return t.ended;
+        return Ok(t.ended);
     }
-    let length = take_number();
+    let length = take_number(rt)?;
     if !length.whole {
-        return 1;
+        return Ok(1);
     }
-    let header = look_and_say(&head[..n], length.value);
+    let header = look_and_say(rt, &head[..n], length.value)?;
     let tables = file.tables;
-    let e = take_edits(Record {
-        header: header,
-        tables: tables,
-    });
+    let e = take_edits(
+        rt,
+        Record {
+            header: header,
+            tables: tables,
+        },
+    )?;
     if !e.whole {
-        return 1;
+        return Ok(1);
     }
     load_filled(
+        rt,
         e.file.header,
         bytes,
         color_endpoints,
@@ -506,8 +526,8 @@ fn load_call(
         alpha_endpoints,
         alpha_selectors,
         value,
-    );
-    0
+    )?;
+    Ok(0)
 }
 
 // What the calls of a case are of.
@@ -520,6 +540,7 @@ enum Kind {
 
 // The next call.
 fn one_call(
+    rt: &(impl Input + Print),
     kind: Kind,
     file: Record,
     bytes: &[u8],
@@ -529,9 +550,10 @@ fn one_call(
     alpha_selectors: &mut [u16],
     value: u8,
     space: &mut [u8],
-) -> u32 {
+) -> io::Result<u32> {
     match kind {
         Kind::Level => level_call(
+            rt,
             file,
             bytes,
             color_endpoints,
@@ -542,6 +564,7 @@ fn one_call(
             space,
         ),
         Kind::Dds => dds_call(
+            rt,
             file,
             bytes,
             color_endpoints,
@@ -552,6 +575,7 @@ fn one_call(
             space,
         ),
         Kind::Load => load_call(
+            rt,
             file,
             bytes,
             color_endpoints,
@@ -565,6 +589,7 @@ fn one_call(
 
 // As many calls as the next byte says.
 fn calls(
+    rt: &(impl Input + Print),
     kind: Kind,
     file: Record,
     bytes: &[u8],
@@ -574,15 +599,15 @@ fn calls(
     alpha_selectors: &mut [u16],
     value: u8,
     space: &mut [u8],
-) -> u32 {
+) -> io::Result<u32> {
     let mut head = [0u8; 1];
-    if !take(&mut head) {
-        return 1;
+    if !take(rt, &mut head)? {
+        return Ok(1);
     }
     let n = crn_utils::byte(&head, 0);
-    let mut k: u32 = 0;
-    while k < n {
+    for _ in 0..n {
         let ended = one_call(
+            rt,
             kind,
             file,
             bytes,
@@ -592,17 +617,17 @@ fn calls(
             alpha_selectors,
             value,
             space,
-        );
+        )?;
         if ended != 0 {
-            return ended;
+            return Ok(ended);
         }
-        k += 1;
     }
-    0
+    Ok(0)
 }
 
 // The edits of the record that opening handed back, then the level calls and the DDS calls.
 fn levels(
+    rt: &(impl Input + Print),
     o: Opened,
     bytes: &[u8],
     color_endpoints: &mut [u32],
@@ -611,13 +636,14 @@ fn levels(
     alpha_selectors: &mut [u16],
     value: u8,
     space: &mut [u8],
-) -> u32 {
-    let e = take_edits(o.file);
+) -> io::Result<u32> {
+    let e = take_edits(rt, o.file)?;
     if !e.whole {
-        return 1;
+        return Ok(1);
     }
     let file = e.file;
     let ended = calls(
+        rt,
         Kind::Level,
         file,
         bytes,
@@ -627,11 +653,12 @@ fn levels(
         alpha_selectors,
         value,
         space,
-    );
+    )?;
     if ended != 0 {
-        return ended;
+        return Ok(ended);
     }
     calls(
+        rt,
         Kind::Dds,
         file,
         bytes,
@@ -646,6 +673,7 @@ fn levels(
 
 // The level calls and the DDS calls, then the load calls.
 fn all_calls(
+    rt: &(impl Input + Print),
     o: Opened,
     bytes: &[u8],
     color_endpoints: &mut [u32],
@@ -654,8 +682,9 @@ fn all_calls(
     alpha_selectors: &mut [u16],
     value: u8,
     space: &mut [u8],
-) -> u32 {
+) -> io::Result<u32> {
     let ended = levels(
+        rt,
         o,
         bytes,
         color_endpoints,
@@ -664,11 +693,12 @@ fn all_calls(
         alpha_selectors,
         value,
         space,
-    );
+    )?;
     if ended != 0 {
-        return ended;
+        return Ok(ended);
     }
     calls(
+        rt,
         Kind::Load,
         o.file,
         bytes,
@@ -682,12 +712,13 @@ fn all_calls(
 }
 
 fn open_and_say(
+    rt: &impl Print,
     file: &[u8],
     color_endpoints: &mut [u32],
     color_selectors: &mut [u32],
     alpha_endpoints: &mut [u16],
     alpha_selectors: &mut [u16],
-) -> Opened {
+) -> io::Result<Opened> {
     let o = crunch::open(
         file,
         color_endpoints,
@@ -696,25 +727,27 @@ fn open_and_say(
         alpha_selectors,
     );
     line(
+        rt,
         b"open",
         o,
         color_endpoints,
         color_selectors,
         alpha_endpoints,
         alpha_selectors,
-    );
-    o
+    )?;
+    Ok(o)
 }
 
 // A file opened with buffers of just the lent lengths, each word filled first.
 fn open_filled(
+    rt: &impl Print,
     file: &[u8],
     color_endpoints: &mut [u32],
     color_selectors: &mut [u32],
     alpha_endpoints: &mut [u16],
     alpha_selectors: &mut [u16],
     value: u8,
-) -> Opened {
+) -> io::Result<Opened> {
     fill_all(
         color_endpoints,
         color_selectors,
@@ -723,6 +756,7 @@ fn open_filled(
         value,
     );
     open_and_say(
+        rt,
         file,
         color_endpoints,
         color_selectors,
@@ -732,6 +766,7 @@ fn open_filled(
 }
 
 fn open_and_call(
+    rt: &(impl Input + Print),
     file: &[u8],
     color_endpoints: &mut [u32],
     color_selectors: &mut [u32],
@@ -739,16 +774,18 @@ fn open_and_call(
     alpha_selectors: &mut [u16],
     value: u8,
     space: &mut [u8],
-) -> u32 {
+) -> io::Result<u32> {
     let o = open_filled(
+        rt,
         file,
         color_endpoints,
         color_selectors,
         alpha_endpoints,
         alpha_selectors,
         value,
-    );
+    )?;
     all_calls(
+        rt,
         o,
         file,
         color_endpoints,
@@ -771,17 +808,17 @@ struct Call {
     size: usize,
 }
 
-fn take_call() -> Call {
+fn take_call(rt: &impl Input) -> io::Result<Call> {
     let mut bytes = [0u8; 32];
-    let whole = take(&mut bytes);
-    Call {
+    let whole = take(rt, &mut bytes)?;
+    Ok(Call {
         whole: whole,
         level: crn_utils::little32(&bytes, 0),
         pitch: crn_utils::little64(&bytes, 4) as usize,
         distance: crn_utils::little64(&bytes, 12) as usize,
         budget: crn_utils::little64(&bytes, 20),
         size: crn_utils::little32(&bytes, 28) as usize,
-    }
+    })
 }
 
 // A record after its edits; not whole where the input ends too early.
@@ -791,27 +828,25 @@ struct Edited {
     file: Record,
 }
 
-fn take_edits(r: Record) -> Edited {
+fn take_edits(rt: &impl Input, r: Record) -> io::Result<Edited> {
     let mut file = r;
     let mut head = [0u8; 1];
-    let mut whole = take(&mut head);
+    let mut whole = take(rt, &mut head)?;
     let n = crn_utils::byte(&head, 0);
-    let mut k: u32 = 0;
-    while k < n {
+    for _ in 0..n {
         let mut bytes = [0u8; 9];
-        whole = whole & take(&mut bytes);
+        whole = whole & take(rt, &mut bytes)?;
         file = edited(
             file,
             crn_utils::byte(&bytes, 0),
             crn_utils::little32(&bytes, 1) as usize,
             crn_utils::little32(&bytes, 5),
         );
-        k += 1;
     }
-    Edited {
+    Ok(Edited {
         whole: whole,
         file: file,
-    }
+    })
 }
 
 // How many words of each palette are lent, and the fill byte; or 1 or 2, as for a case.
@@ -825,24 +860,25 @@ struct Lent {
     value: u8,
 }
 
-fn take_lent() -> Lent {
+fn take_lent(rt: &impl Input) -> io::Result<Lent> {
     let mut bytes = [0u8; 17];
-    let whole = take(&mut bytes);
+    let whole = take(rt, &mut bytes)?;
     let a = crn_utils::little32(&bytes, 0) as usize;
     let b = crn_utils::little32(&bytes, 4) as usize;
     let c = crn_utils::little32(&bytes, 8) as usize;
     let d = crn_utils::little32(&bytes, 12) as usize;
-    Lent {
+    Ok(Lent {
         ended: if whole { 0 } else { 1 },
         color_endpoints: a,
         color_selectors: b,
         alpha_endpoints: c,
         alpha_selectors: d,
         value: bytes[16],
-    }
+    })
 }
 
 fn with_buffers(
+    rt: &(impl Input + Print),
     file: &[u8],
     a: usize,
     b: usize,
@@ -850,7 +886,7 @@ fn with_buffers(
     d: usize,
     value: u8,
     space: &mut [u8],
-) -> u32
+) -> io::Result<u32>
     requires { (a ≤ 8192) × (b ≤ 8192) × (c ≤ 8192) × (d ≤ 24576) }
 {
     let mut color_endpoints = color_space();
@@ -858,6 +894,7 @@ fn with_buffers(
     let mut alpha_endpoints = alpha_space();
     let mut alpha_selectors = selector_space();
     open_and_call(
+        rt,
         file,
         &mut color_endpoints[..a],
         &mut color_selectors[..b],
@@ -869,24 +906,24 @@ fn with_buffers(
 }
 
 // 2 where more is lent than there is room for.
-fn with_lent(file: &[u8], l: Lent, space: &mut [u8]) -> u32 {
+fn with_lent(rt: &(impl Input + Print), file: &[u8], l: Lent, space: &mut [u8]) -> io::Result<u32> {
     let a = l.color_endpoints;
     let b = l.color_selectors;
     let c = l.alpha_endpoints;
     let d = l.alpha_selectors;
     if 8192 < a {
-        return 2;
+        return Ok(2);
     }
     if 8192 < b {
-        return 2;
+        return Ok(2);
     }
     if 8192 < c {
-        return 2;
+        return Ok(2);
     }
     if 24576 < d {
-        return 2;
+        return Ok(2);
     }
-    with_buffers(file, a, b, c, d, l.value, space)
+    with_buffers(rt, file, a, b, c, d, l.value, space)
 }
 
 // How many bytes were taken into a buffer; or 1 or 2, as for a case.
@@ -897,66 +934,61 @@ struct Taken {
 }
 
 // A length, and so many bytes for the start of the buffer.
-fn take_sized(buffer: &mut [u8]) -> Taken
-    ensures { result.size ≤ length buffer.old }
+fn take_sized(rt: &impl Input, buffer: &mut [u8]) -> io::Result<Taken>
+    ensures { IfOk result (λ taken. taken.size ≤ length buffer.old) }
 {
-    let t = take_number();
+    let t = take_number(rt)?;
     let n = t.value;
     if !t.whole {
-        return Taken { ended: 1, size: 0 };
+        return Ok(Taken { ended: 1, size: 0 });
     }
     if buffer.len() < n {
-        return Taken { ended: 2, size: 0 };
+        return Ok(Taken { ended: 2, size: 0 });
     }
-    if !take(&mut buffer[..n]) {
-        return Taken { ended: 1, size: 0 };
+    if !take(rt, &mut buffer[..n])? {
+        return Ok(Taken { ended: 1, size: 0 });
     }
-    Taken { ended: 0, size: n }
+    Ok(Taken { ended: 0, size: n })
 }
 
 // The next case: 0 where it was done, 1 where the input ends too early, 2 where something is too large.
-fn one(space: &mut [u8]) -> u32 {
+fn one(rt: &(impl Input + Print), space: &mut [u8]) -> io::Result<u32> {
     let mut file = file_space();
-    let t = take_sized(&mut file);
+    let t = take_sized(rt, &mut file)?;
     let size = t.size;
     if t.ended != 0 {
-        return t.ended;
+        return Ok(t.ended);
     }
-    let l = take_lent();
+    let l = take_lent(rt)?;
     if l.ended != 0 {
-        return 1;
+        return Ok(1);
     }
-    with_lent(&file[..size], l, space)
+    with_lent(rt, &file[..size], l, space)
 }
 
 // Every destination is a part of one space.
-fn cases(n: u32, space: &mut [u8]) {
-    let mut k: u32 = 0;
-    while k < n {
-        let ended = one(space);
+fn cases(rt: &(impl Input + Print), n: u32, space: &mut [u8]) -> io::Result<()> {
+    for _ in 0..n {
+        let ended = one(rt, space)?;
         if ended == 1 {
-            text(b"short input\n");
-            return;
+            return text(rt, b"short input\n");
         }
         if ended == 2 {
-            text(b"too large\n");
-            return;
+            return text(rt, b"too large\n");
         }
-        k += 1;
     }
+    Ok(())
 }
 
-fn main() {
+fn main(rt: HostRuntime) -> io::Result<()> {
     let mut head = [0u8; 8];
-    if !take(&mut head) {
-        text(b"short input\n");
-        return;
+    if !take(&rt, &mut head)? {
+        return text(&rt, b"short input\n");
     }
     // `CASE`
     if crn_utils::little32(&head, 0) != 1163084099 {
-        text(b"no cases\n");
-        return;
+        return text(&rt, b"no cases\n");
     }
     let mut space = destination_space();
-    cases(crn_utils::little32(&head, 4), &mut space);
+    cases(&rt, crn_utils::little32(&head, 4), &mut space)
 }

@@ -1,14 +1,14 @@
 // Receives code tables and draws symbols, case by case from standard input, and writes a line for each operation. README.md has the format.
 #![tactic(auto)]
 
-ghost use Rattle.std.specs.Prelude.{◌≡◌, ◌+◌, ◌*◌, ◌<◌, ◌≤◌, length};
+ghost use Rattle.std.specs.Prelude.{◌≡◌, ◌<◌, ◌≤◌, IfOk, length};
 ghost use Rattle.crn_format.specs.Limits.{max_symbols, too_long};
 ghost use Rattle.crn_symbol_codec.specs.Cursors.{Holds};
 ghost use Rattle.crn_symbol_codec.specs.Decoders.{Decodes};
 
 use crn_format::Table;
 use crn_symbol_codec::{Cursor, Taken};
-use libc::{STDIN_FILENO, STDOUT_FILENO};
+use std::io::{self, Read};
 
 // What an operation leaves: whether the case goes on, from which cursor, and with which table.
 #[derive(Clone, Copy)]
@@ -29,20 +29,17 @@ struct Drawn {
 
 // ---- lines
 
-fn text(t: &[u8]) {
-    io::write_all(STDOUT_FILENO, t);
+fn text(rt: &impl Print, t: &[u8]) -> io::Result<()> {
+    rt.write_all(t)
 }
 
 // A number after a space.
-fn part(n: u64) {
-    text(b" ");
-    io::print_decimal(STDOUT_FILENO, n);
+fn part(rt: &impl Print, n: u64) -> io::Result<()> {
+    print!(rt; " {n}")
 }
 
-fn last_hash(h: u64) {
-    text(b" ");
-    io::print_hex(STDOUT_FILENO, h, 16);
-    text(b"\n");
+fn last_hash(rt: &impl Print, h: u64) -> io::Result<()> {
+    println!(rt; " {h:016x}")
 }
 
 fn hash_of(bytes: &[u8]) -> u64 {
@@ -57,51 +54,51 @@ fn hash_of(bytes: &[u8]) -> u64 {
 
 // ---- the operations
 
-fn number(seg: &[u8], s: State, n: u32) -> State
+fn number(rt: &impl Print, seg: &[u8], s: State, n: u32) -> io::Result<State>
     requires holds { Holds seg.now s.cursor }
     requires seg_long { length seg.now < too_long }
-    ensures { Holds seg.now result.cursor }
+    ensures { IfOk result (λ after. Holds seg.now after.cursor) }
 {
     let c = s.cursor;
     let t = s.table;
     if 16 < n {
-        text(b"number of more than 16 bits\n");
-        return State {
+        text(rt, b"number of more than 16 bits\n")?;
+        return Ok(State {
             going: false,
             cursor: c,
             table: t,
-        };
+        });
     }
     match crn_symbol_codec::number(seg, c, n as u64) {
         Taken::Value(v, d) => {
-            text(b"number 0");
-            part(crn_symbol_codec::place(seg, d) as u64);
-            part(v as u64);
-            text(b"\n");
-            State {
+            text(rt, b"number 0")?;
+            part(rt, crn_symbol_codec::place(seg, d) as u64)?;
+            part(rt, v as u64)?;
+            text(rt, b"\n")?;
+            Ok(State {
                 going: true,
                 cursor: d,
                 table: t,
-            }
+            })
         }
         Taken::Failed(k) => {
-            text(b"number");
-            part(k as u64);
-            part(crn_symbol_codec::place(seg, c) as u64);
-            text(b"\n");
-            State {
+            text(rt, b"number")?;
+            part(rt, k as u64)?;
+            part(rt, crn_symbol_codec::place(seg, c) as u64)?;
+            text(rt, b"\n")?;
+            Ok(State {
                 going: false,
                 cursor: c,
                 table: t,
-            }
+            })
         }
     }
 }
 
-fn table(seg: &[u8], c: Cursor) -> State
+fn table(rt: &impl Print, seg: &[u8], c: Cursor) -> io::Result<State>
     requires holds { Holds seg.now c }
     requires seg_long { length seg.now < too_long }
-    ensures { Holds seg.now result.cursor }
+    ensures { IfOk result (λ after. Holds seg.now after.cursor) }
 {
     let mut t = Table {
         count: 0,
@@ -112,24 +109,24 @@ fn table(seg: &[u8], c: Cursor) -> State
     let at = r.at;
     let d = r.cursor;
     t.count = r.count;
-    text(b"table");
-    part(k as u64);
-    part(at as u64);
+    text(rt, b"table")?;
+    part(rt, k as u64)?;
+    part(rt, at as u64)?;
     if k != 0 {
-        text(b"\n");
-        return State {
+        text(rt, b"\n")?;
+        return Ok(State {
             going: false,
             cursor: c,
             table: t,
-        };
+        });
     }
-    part(t.count as u64);
-    last_hash(hash_of_lengths(t));
-    State {
+    part(rt, t.count as u64)?;
+    last_hash(rt, hash_of_lengths(t))?;
+    Ok(State {
         going: true,
         cursor: d,
         table: t,
-    }
+    })
 }
 
 // A table's lengths, in an array that is known to have them all.
@@ -207,53 +204,53 @@ fn from_code(lengths: &[u8], seg: &[u8], c: Cursor, n: u32) -> Drawn
     many(none, &lookup, &sorted, seg, c, n)
 }
 
-fn draws(seg: &[u8], s: State, n: u32) -> State
+fn draws(rt: &impl Print, seg: &[u8], s: State, n: u32) -> io::Result<State>
     requires holds { Holds seg.now s.cursor }
     requires seg_long { length seg.now < too_long }
-    ensures { Holds seg.now result.cursor }
+    ensures { IfOk result (λ after. Holds seg.now after.cursor) }
 {
     let c = s.cursor;
     let t = s.table;
     let count = t.count as usize;
     if 8192 < count {
-        return State {
+        return Ok(State {
             going: false,
             cursor: c,
             table: t,
-        };
+        });
     }
     let lengths = lengths_of(t);
     let d = from_code(&lengths[..count], seg, c, n);
     let next = d.cursor;
-    text(b"draws");
-    part(d.refusal as u64);
-    part(crn_symbol_codec::place(seg, next) as u64);
-    part(d.count);
-    last_hash(d.hash);
-    State {
+    text(rt, b"draws")?;
+    part(rt, d.refusal as u64)?;
+    part(rt, crn_symbol_codec::place(seg, next) as u64)?;
+    part(rt, d.count)?;
+    last_hash(rt, d.hash)?;
+    Ok(State {
         going: d.refusal == 0,
         cursor: next,
         table: t,
-    }
+    })
 }
 
-fn operate(seg: &[u8], s: State, kind: u32, n: u32) -> State
+fn operate(rt: &impl Print, seg: &[u8], s: State, kind: u32, n: u32) -> io::Result<State>
     requires { (Holds seg.now s.cursor) × (length seg.now < too_long) }
-    ensures { Holds seg.now result.cursor }
+    ensures { IfOk result (λ after. Holds seg.now after.cursor) }
 {
     if kind == 1 {
-        return number(seg, s, n);
+        return number(rt, seg, s, n);
     }
     if kind == 2 {
         let c = s.cursor;
-        return table(seg, c);
+        return table(rt, seg, c);
     }
-    draws(seg, s, n)
+    draws(rt, seg, s, n)
 }
 
 // ---- cases
 
-fn operations(seg: &[u8], list: &[u8], n: u32)
+fn operations(rt: &impl Print, seg: &[u8], list: &[u8], n: u32) -> io::Result<()>
     requires { (length seg.now < too_long) × (n < 256) }
 {
     let mut s = State {
@@ -264,61 +261,74 @@ fn operations(seg: &[u8], list: &[u8], n: u32)
             lengths: [0; 8192],
         },
     };
-    let mut i: u32 = 0;
-    while i < n {
+    for i in 0..n {
         if !s.going {
-            return;
+            return Ok(());
         }
         let kind = crn_utils::byte(list, 5 * i as usize);
         let argument = crn_utils::little32(list, 5 * i + 1);
-        s = operate(seg, s, kind, argument);
-        i += 1;
+        s = operate(rt, seg, s, kind, argument)?;
     }
+    Ok(())
 }
 
 // The case at a place; answers the place after it, or 0 where the input ends before it does.
-fn one(input: &[u8], at: usize) -> usize
+fn one(rt: &impl Print, input: &[u8], at: usize) -> io::Result<usize>
     requires { (length input.now ≤ 65536) × (at ≤ 65540) }
-    ensures { result ≤ length input.now }
+    ensures { IfOk result (λ next. next ≤ length input.now) }
 {
     let end = input.len();
     if end < at + 4 {
-        return 0;
+        return Ok(0);
     }
     let size = crn_utils::little32(input, at as u32) as usize;
     let first = at + 4;
     if end - first <= size {
-        return 0;
+        return Ok(0);
     }
     let after = first + size;
     let n = crn_utils::byte(input, after);
     let begin = after + 1;
     if end - begin < 5 * n as usize {
-        return 0;
+        return Ok(0);
     }
-    operations(&input[first..after], &input[begin..], n);
-    begin + 5 * n as usize
+    operations(rt, &input[first..after], &input[begin..], n)?;
+    Ok(begin + 5 * n as usize)
 }
 
-fn cases(input: &[u8])
+fn cases(rt: &impl Print, input: &[u8]) -> io::Result<()>
     requires { length input.now ≤ 65536 }
 {
     let n = crn_utils::little32(input, 0);
     let mut at: usize = 4;
-    let mut k: u32 = 0;
-    while k < n {
-        let next = one(input, at);
+    for _ in 0..n {
+        let next = one(rt, input, at)?;
         if next == 0 {
-            text(b"short input\n");
-            return;
+            return text(rt, b"short input\n");
         }
         at = next;
-        k += 1;
     }
+    Ok(())
 }
 
-fn main() {
-    let mut buffer = io::large_buffer();
-    let n = io::read_full(STDIN_FILENO, &mut buffer);
-    cases(&buffer[..n]);
+// Reads standard input until the buffer is full or the input ends, and answers how many bytes stand at the buffer's start.
+fn read_full(rt: &impl Input, buffer: &mut [u8]) -> io::Result<usize>
+    ensures { IfOk result (λ n. n ≤ length buffer.new) }
+{
+    let mut input = rt.reader();
+    let mut done: usize = 0;
+    while done < buffer.len() {
+        let n = input.read(&mut buffer[done..])?;
+        if n == 0 {
+            break;
+        }
+        done += n;
+    }
+    Ok(done)
+}
+
+fn main(rt: HostRuntime) -> io::Result<()> {
+    let mut buffer = [0u8; 65536];
+    let n = read_full(&rt, &mut buffer)?;
+    cases(&rt, &buffer[..n])
 }
