@@ -5,7 +5,7 @@ use mathlib.Core.Path.{◌≡◌, refl}
 use native.Mathlib.Omega.{arith}
 use lib.Dec.{leb, eqb}
 use borrow.Author.Tests.{leb-true, eqb-true}
-use Rattle.crn_format.specs.Choice.{pick, both, either}
+use Rattle.crn_format.specs.Choice.{pick, either}
 use Rattle.crn_format.specs.Limits.{max_side, max_levels, max_entries}
 use Rattle.crn_format.specs.Header.{kind_of, known, has_color, has_alpha, between, entries_fit, within_limits}
 use Rattle.crn_format.specs.declared.Part.{Part}

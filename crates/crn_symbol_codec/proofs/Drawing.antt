@@ -10,7 +10,7 @@ use Rattle.crn_format.specs.Codes.{symbol_at}
 use Rattle.crn_symbol_codec.specs.declared.Cursor.{Cursor}
 use Rattle.crn_symbol_codec.specs.declared.Taken.TheVariants.{Value, Failed}
 use Rattle.crn_symbol_codec.specs.Cursors.{place, past, Holds, Enough}
-use Rattle.crn_symbol_codec.specs.Decoders.{width_in, longest_in, counts_in, walk, front, found_in, Usable}
+use Rattle.crn_symbol_codec.specs.Decoders.{width_in, longest_in, counts_in, front, found_in, Usable}
 use Rattle.crn_symbol_codec.specs.Drawing.{walked, Draws}
 use Rattle.crn_symbol_codec.proofs.Cut.{cut_lt}
 use Rattle.crn_symbol_codec.proofs.Holding.{window, place-past, after-drop}

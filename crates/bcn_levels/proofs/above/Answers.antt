@@ -1,6 +1,5 @@
 -- What is rounded down is a byte, so its product fits. Assumes nothing.
 use native.Mathlib.Omega.{arith}
-use borrow.Author.Rules.{rules}
 use Rattle.bcn_levels.proofs.Eight.{parts, placed-small}
 use Rattle.bcn_levels.proofs.above.Goals as goal
 

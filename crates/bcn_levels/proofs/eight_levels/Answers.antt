@@ -1,7 +1,6 @@
 -- Each level by its place on the ramp. Assumes nothing.
 use mathlib.Core.Path.{refl}
 use native.Mathlib.Omega.{arith}
-use borrow.Author.Rules.{rules}
 use Rattle.bcn_levels.proofs.Eight.{each-of_eight, placed-small, eight_met}
 use Rattle.bcn_levels.proofs.eight_levels.Goals as goal
 

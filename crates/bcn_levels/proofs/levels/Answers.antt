@@ -1,5 +1,4 @@
 -- The mode by the order of the ends. Assumes nothing.
-use borrow.Author.Rules.{rules}
 use Rattle.bcn_levels.proofs.Eight.{in_order, not_in_order}
 use Rattle.bcn_levels.proofs.levels.Goals as goal
 

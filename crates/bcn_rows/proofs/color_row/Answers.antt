@@ -1,6 +1,5 @@
 -- Two texels in each half. Assumes nothing.
 use Rattle.bcn_rows.proofs.Laws.{chosen-row}
-use borrow.Author.Rules.{rules}
 use Rattle.bcn_rows.proofs.color_row.Goals as goal
 
 pub returns : goal.returns

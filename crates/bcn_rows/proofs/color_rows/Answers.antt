@@ -1,6 +1,5 @@
 -- Row by row. Assumes nothing.
 use Rattle.bcn_rows.proofs.Laws.{all-chosen}
-use borrow.Author.Rules.{rules}
 use Rattle.bcn_rows.proofs.color_rows.Goals as goal
 
 pub returns : goal.returns

@@ -4,7 +4,6 @@ use native.Mathlib.Numerals.{towards_suc}
 use native.Mathlib.Nat.{div-div-eq-div-mul}
 use lib.ListN.{length-set}
 use Rattle.crn_format.specs.Grid.{little}
-use borrow.Author.Rules.{rules}
 use Rattle.bcn_rows.proofs.put_four.Goals as goal
 
 pub bounds-dst-at-2 : goal.bounds-dst-at-2

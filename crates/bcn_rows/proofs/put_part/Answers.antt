@@ -3,7 +3,6 @@ use mathlib.Core.Path.{◌≡◌}
 use native.Mathlib.Omega.{arith}
 use Rattle.bcn_rows.specs.Rows.{texel_of}
 use Rattle.bcn_rows.proofs.Laws.{first-texel, next-texel}
-use borrow.Author.Rules.{rules}
 use Rattle.bcn_rows.proofs.put_part.Goals as goal
 
 pub returns-then-n-eq0 : goal.returns-then-n-eq0

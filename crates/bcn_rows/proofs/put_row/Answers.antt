@@ -1,7 +1,6 @@
 -- Two stores of eight bytes, or the row's first texels. Assumes nothing.
 use Rattle.crn_blocks.proofs.Putting.{put_both}
 use Rattle.bcn_rows.proofs.Laws.{whole_row}
-use borrow.Author.Rules.{rules}
 use Rattle.bcn_rows.proofs.put_row.Goals as goal
 
 pub returns-then-n-eq4 : goal.returns-then-n-eq4

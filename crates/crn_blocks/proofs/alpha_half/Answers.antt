@@ -1,7 +1,6 @@
 -- An endpoint word and three selector words, each above the one before.
 use mathlib.Core.Path.{refl}
 use Rattle.crn_blocks.proofs.Words.{alpha_words}
-use borrow.Author.Rules.{rules}
 use Rattle.crn_blocks.proofs.alpha_half.Goals as goal
 
 pub returns : goal.returns

@@ -1,4 +1,3 @@
-use Prim.Native.Nat.{◌-◌, ◌≤◌}
 use mathlib.Core.Path.{◌≡◌, refl, ap, ◌∙◌}
 use native.Mathlib.Numerals.{add-one}
 use native.Mathlib.Omega.{arith}
@@ -15,8 +14,10 @@ loop-face-init c = (omega arith, refl)
 pub clear_face-requires : goal.clear_face-requires
 clear_face-requires c =
     let a = c.args in
-    record { room = room-kept c.requires (ap length c.loop-face.invariant.1 ∙ painted-length a.g (blank a.g) c.loop-face.face a.dst.now);
-        face_in = omega (arith, c.loop-face-test.true) }
+    record {
+      room = room-kept c.requires (ap length c.loop-face.invariant.1 ∙ painted-length a.g (blank a.g) c.loop-face.face a.dst.now);
+      face_in = omega (arith, c.loop-face-test.true);
+    }
 
 pub overflow_add-face : goal.overflow_add-face
 overflow_add-face c = omega (arith, c.loop-face-test.true, c.requires.few_faces)

@@ -1,12 +1,7 @@
 -- The faces before this one are blank.
 use Prim.Native.Nat.{◌-◌, ◌≤◌}
-use mathlib.Core.Path.{◌≡◌, refl, ap, ◌∙◌}
-use native.Mathlib.Numerals.{add-one}
-use native.Mathlib.Omega.{arith}
-use lib.ListN.{length}
-use Rattle.crn_format.specs.Grid.{painted, face_painted, blank}
-use Rattle.crn_blocks.proofs.Places.{room-kept}
-use Rattle.crn_blocks.proofs.Bytes.{painted-length}
+use mathlib.Core.Path.{◌≡◌}
+use Rattle.crn_format.specs.Grid.{painted, blank}
 use Rattle.crn_blocks.proofs.clear.Given as goal
 
 abbrev pub invariant-loop-face : goal.invariant-loop-face

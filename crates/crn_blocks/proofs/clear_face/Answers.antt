@@ -1,4 +1,3 @@
-use Prim.Native.Nat.{◌-◌, ◌≤◌}
 use mathlib.Core.Path.{◌≡◌, refl, ap, ◌∙◌}
 use native.Mathlib.Numerals.{add-one}
 use native.Mathlib.Omega.{arith}
@@ -14,8 +13,12 @@ loop-y-init c = (omega arith, refl)
 
 pub clear_row-requires : goal.clear_row-requires
 clear_row-requires c =
-    let a = c.args in record { room = room-kept c.requires.room (ap length c.loop-y.invariant.1 ∙ face-length a.g (blank a.g) a.face
-        c.loop-y.y a.dst.now); face_in = c.requires.face_in; y_in = omega (arith, c.loop-y-test.true) }
+    let a = c.args in record {
+      room = room-kept c.requires.room (ap length c.loop-y.invariant.1 ∙ face-length a.g (blank a.g) a.face
+          c.loop-y.y a.dst.now);
+      face_in = c.requires.face_in;
+      y_in = omega (arith, c.loop-y-test.true);
+    }
 
 pub overflow_add-y : goal.overflow_add-y
 overflow_add-y c = omega (arith, c.loop-y-test.true, c.requires.room.few_rows)

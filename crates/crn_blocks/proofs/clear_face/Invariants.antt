@@ -1,12 +1,7 @@
 -- The rows of the face before y are blank.
 use Prim.Native.Nat.{◌-◌, ◌≤◌}
-use mathlib.Core.Path.{◌≡◌, refl, ap, ◌∙◌}
-use native.Mathlib.Numerals.{add-one}
-use native.Mathlib.Omega.{arith}
-use lib.ListN.{length}
-use Rattle.crn_format.specs.Grid.{face_painted, row_painted, blank}
-use Rattle.crn_blocks.proofs.Places.{room-kept}
-use Rattle.crn_blocks.proofs.Bytes.{face-length}
+use mathlib.Core.Path.{◌≡◌}
+use Rattle.crn_format.specs.Grid.{face_painted, blank}
 use Rattle.crn_blocks.proofs.clear_face.Given as goal
 
 abbrev pub invariant-loop-y : goal.invariant-loop-y

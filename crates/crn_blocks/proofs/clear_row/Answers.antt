@@ -1,9 +1,7 @@
-use Prim.Native.Nat.{◌-◌, ◌≤◌}
 use mathlib.Core.Path.{◌≡◌, refl, ap, ◌∙◌}
 use native.Mathlib.Omega.{arith}
 use lib.ListN.{length}
-use Rattle.crn_format.specs.Grid.{place_of, row_painted, blank}
-use Rattle.crn_blocks.specs.Sheet.{In}
+use Rattle.crn_format.specs.Grid.{row_painted, blank}
 use Rattle.crn_blocks.proofs.Places.{Lies, lies, row_ends}
 use Rattle.crn_blocks.proofs.Bytes.{row-length}
 use Rattle.crn_blocks.proofs.Putting.{put-blank}
@@ -26,9 +24,9 @@ loop-x-init c = let a = c.args in ((omega arith, place-first a.g a.face a.y), re
 pub clear_block-requires : goal.clear_block-requires
 clear_block-requires c =
     let l : Lies c.args.g c.args.face c.loop-x.x c.args.y (length c.args.dst.now) = lies c.requires.room
-        (record { face = c.requires.face_in; column = c.loop-x-test.true; row = c.requires.y_in }) in
+    (record { face = c.requires.face_in; column = c.loop-x-test.true; row = c.requires.y_in }) in
     let n : length c.loop-x.dst ≡ length c.args.dst.now = let a = c.args in ap length c.loop-x.invariant.1 ∙ row-length a.g (blank a.g)
-        a.face a.y c.loop-x.x a.dst.now in
+    a.face a.y c.loop-x.x a.dst.now in
     record { bytes_known = c.requires.room.size; room = omega (arith, c.loop-x.invariant.0.1) }
 
 pub overflow_add-at-in-loop-x : goal.overflow_add-at-in-loop-x

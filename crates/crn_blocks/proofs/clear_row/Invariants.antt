@@ -1,14 +1,7 @@
 -- The blocks of the row before x are blank, and the block at x starts at `at`.
 use Prim.Native.Nat.{◌-◌, ◌≤◌}
-use mathlib.Core.Path.{◌≡◌, refl, ap, ◌∙◌}
-use native.Mathlib.Omega.{arith}
-use lib.ListN.{length}
+use mathlib.Core.Path.{◌≡◌}
 use Rattle.crn_format.specs.Grid.{place_of, row_painted, blank}
-use Rattle.crn_blocks.specs.Sheet.{In}
-use Rattle.crn_blocks.proofs.Places.{Lies, lies, row_ends}
-use Rattle.crn_blocks.proofs.Bytes.{row-length}
-use Rattle.crn_blocks.proofs.Putting.{put-blank}
-use Rattle.crn_blocks.proofs.Counting.{place-first, place-next}
 use Rattle.crn_blocks.proofs.clear_row.Given as goal
 
 abbrev pub invariant-loop-x : goal.invariant-loop-x

@@ -1,6 +1,5 @@
 -- An endpoint word and a selector word, the one above the other.
 use Rattle.crn_blocks.proofs.Words.{color_words}
-use borrow.Author.Rules.{rules}
 use Rattle.crn_blocks.proofs.color_half.Goals as goal
 
 pub returns : goal.returns

@@ -1,8 +1,6 @@
 -- So many of the blocks in the faces before this one are cut-outs.
 use Prim.Native.Nat.{◌*◌, ◌-◌, ◌≤◌}
-use mathlib.Core.Path.{◌≡◌, refl, ap, ◌∙◌}
-use native.Mathlib.Numerals.{add-one}
-use native.Mathlib.Omega.{arith}
+use mathlib.Core.Path.{◌≡◌}
 use Rattle.crn_format.specs.Grid.{cutouts}
 use Rattle.crn_blocks.specs.Sheet.{standing}
 use Rattle.crn_blocks.proofs.cutouts.Given as goal

@@ -1,9 +1,7 @@
-use Prim.Native.Nat.{◌-◌, ◌≤◌}
 use mathlib.Core.Path.{◌≡◌, refl, ap, ◌∙◌}
-use mathlib.Core.Logic.{⊎_elim}
 use native.Mathlib.Omega.{arith}
 use lib.ListN.{length}
-use Rattle.crn_format.specs.Grid.{place_of, row_cutouts}
+use Rattle.crn_format.specs.Grid.{row_cutouts}
 use Rattle.crn_blocks.specs.Sheet.{In, standing}
 use Rattle.crn_blocks.proofs.Places.{Lies, lies, row_ends}
 use Rattle.crn_blocks.proofs.Counting.{place-first, place-next, one_more, no_more}
@@ -58,22 +56,32 @@ pub loop-x-preserved : goal.loop-x-preserved
 loop-x-preserved c =
     let l = c.loop-x in
     let here : In c.args.g c.args.face c.loop-x.x c.args.y = record
-        { face = c.requires.face_in; column = c.loop-x-test.true; row = c.requires.y_in } in (
-      (omega (arith, c.loop-x-test.true), omega (arith, l.invariant.0.1, c.requires.bytes_same, place-next c.args.g c.args.face l.x
-          c.args.y)),
+    { face = c.requires.face_in; column = c.loop-x-test.true; row = c.requires.y_in } in (
+      (
+        omega (arith, c.loop-x-test.true),
+        omega (
+          arith,
+          l.invariant.0.1,
+          c.requires.bytes_same,
+          place-next c.args.g c.args.face l.x
+              c.args.y,
+        ),
+      ),
       elim c.if-pair.branch [
-        then-pair w ↦
-          let e = one_more c.args.dst.now c.requires.room here l.invariant.0.1 c.pair.ensures c.pair-in-loop-x.ensures w.if-pair.true in
-          (omega (arith, l.invariant.1.0), omega (arith, l.invariant.1.1))
-      | else-pair w ↦
-          let e = no_more c.args.dst.now c.requires.room here l.invariant.0.1 c.pair.ensures c.pair-in-loop-x.ensures w.if-pair.false in
-          (omega (arith, l.invariant.1.0), omega (arith, l.invariant.1.1))
+        | then-pair w ↦
+            let e = one_more c.args.dst.now c.requires.room here l.invariant.0.1 c.pair.ensures c.pair-in-loop-x.ensures w.if-pair.true in
+            (omega (arith, l.invariant.1.0), omega (arith, l.invariant.1.1))
+        | else-pair w ↦
+            let e = no_more c.args.dst.now c.requires.room here l.invariant.0.1 c.pair.ensures c.pair-in-loop-x.ensures w.if-pair.false in
+            (omega (arith, l.invariant.1.0), omega (arith, l.invariant.1.1))
       ],
     )
 
 pub returns : goal.returns
 returns c =
     let l = c.loop-x in
-    let full : l.x ≡ c.args.g.columns = omega (arith, l.invariant.0.0, c.loop-x-test.false) in
-    (l.invariant.1.0 ∙ ap (row_cutouts (standing c.args.g c.args.dst.now) c.args.face c.args.y) full, omega
-        (arith, l.invariant.1.1, c.requires.room.few_columns))
+    let full : l.x ≡ c.args.g.columns = omega (arith, l.invariant.0.0, c.loop-x-test.false) in (
+      l.invariant.1.0 ∙ ap (row_cutouts (standing c.args.g c.args.dst.now) c.args.face c.args.y) full,
+      omega
+          (arith, l.invariant.1.1, c.requires.room.few_columns),
+    )

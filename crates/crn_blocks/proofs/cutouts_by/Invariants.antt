@@ -1,13 +1,8 @@
 -- So many of the row's blocks before x are cut-outs, and the block at x starts at `at`.
 use Prim.Native.Nat.{◌-◌, ◌≤◌}
-use mathlib.Core.Path.{◌≡◌, refl, ap, ◌∙◌}
-use mathlib.Core.Logic.{⊎_elim}
-use native.Mathlib.Omega.{arith}
-use lib.ListN.{length}
+use mathlib.Core.Path.{◌≡◌}
 use Rattle.crn_format.specs.Grid.{place_of, row_cutouts}
-use Rattle.crn_blocks.specs.Sheet.{In, standing}
-use Rattle.crn_blocks.proofs.Places.{Lies, lies, row_ends}
-use Rattle.crn_blocks.proofs.Counting.{place-first, place-next, one_more, no_more}
+use Rattle.crn_blocks.specs.Sheet.{standing}
 use Rattle.crn_blocks.proofs.cutouts_by.Given as goal
 
 abbrev pub invariant-loop-x : goal.invariant-loop-x

@@ -1,8 +1,6 @@
 -- So many of the face's blocks in the rows before y are cut-outs.
 use Prim.Native.Nat.{◌*◌, ◌-◌, ◌≤◌}
-use mathlib.Core.Path.{◌≡◌, refl, ap, ◌∙◌}
-use native.Mathlib.Numerals.{add-one}
-use native.Mathlib.Omega.{arith}
+use mathlib.Core.Path.{◌≡◌}
 use Rattle.crn_format.specs.Grid.{face_cutouts}
 use Rattle.crn_blocks.specs.Sheet.{standing}
 use Rattle.crn_blocks.proofs.cutouts_face.Given as goal

@@ -1,6 +1,5 @@
 -- An entry of a slice of words.
 use native.Mathlib.Omega.{arith}
-use borrow.Author.Rules.{rules}
 use Rattle.crn_blocks.proofs.entry16.Goals as goal
 
 pub overflow_cast-result : goal.overflow_cast-result

@@ -1,7 +1,6 @@
 -- Two bytes, the first the lower.
 use Prim.Native.Nat.{◌+◌}
 use native.Mathlib.Omega.{arith}
-use borrow.Author.Rules.{rules}
 use Rattle.crn_blocks.proofs.pair.Goals as goal
 
 pub overflow_cast-result : goal.overflow_cast-result

@@ -1,7 +1,6 @@
 -- The header's and the data's size against the file's length.
 use Rattle.crn_format.specs.Header.{sizes_in}
 use Rattle.crn_formats.proofs.Joined.{grouped}
-use borrow.Author.Rules.{rules}
 use Rattle.crn_bounds.proofs.sizes_hold.Goals as goal
 
 pub returns : goal.returns

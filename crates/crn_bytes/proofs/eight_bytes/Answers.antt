@@ -1,6 +1,5 @@
 -- Eight bytes are the number that their 64 bits spell.
 use native.Mathlib.Omega.{arith}
-use borrow.Author.Rules.{rules}
 use Rattle.crn_bytes.proofs.Bytes.{by_eight}
 use Rattle.crn_bytes.proofs.eight_bytes.Goals as goal
 

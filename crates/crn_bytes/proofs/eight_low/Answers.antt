@@ -1,6 +1,5 @@
 -- Eight bytes, the first lowest, by halves.
 use native.Mathlib.Omega.{arith}
-use borrow.Author.Rules.{rules}
 use Rattle.crn_utils.proofs.Words.{halves}
 use Rattle.crn_bytes.proofs.eight_low.Goals as goal
 

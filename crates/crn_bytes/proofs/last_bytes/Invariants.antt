@@ -1,11 +1,8 @@
 -- The last bytes, with 0 after them. Invariant: w is what the bytes from i to k spell.
-use Prim.Native.Nat.{ℕ, ◌-◌, ◌*◌, ◌%◌, ◌^◌, ◌≤◌}
-use mathlib.Core.Path.{◌≡◌, sym, ap, ◌∙◌}
-use native.Mathlib.Omega.{arith}
+use Prim.Native.Nat.{◌-◌, ◌*◌, ◌≤◌}
+use mathlib.Core.Path.{◌≡◌}
 use lib.ListN.{length}
-use borrow.Author.Rules.{rules}
 use Rattle.crn_format.specs.Bits.{spelled}
-use Rattle.crn_bytes.proofs.Bytes.{field_past, byte_more, all-bytes, no_byte, few_bytes}
 use Rattle.crn_bytes.proofs.last_bytes.Given as goal
 
 abbrev pub invariant-loop-k : goal.invariant-loop-k

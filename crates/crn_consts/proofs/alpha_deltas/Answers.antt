@@ -1,5 +1,4 @@
 -- The delta pair of a symbol, of a table that has all.
-use borrow.Author.Rules.{rules}
 use Rattle.crn_consts.proofs.alpha_deltas.Goals as goal
 
 pub returns : goal.returns

@@ -1,5 +1,4 @@
 -- The rule's three cases, each by the tests that lead to it.
-use borrow.Author.Rules.{rules}
 use borrow.Author.Tests.{eq-eqb, ne_eqb, lt-ltb, le-ltb}
 use Rattle.crn_format.specs.Palettes.{from_linear}
 use Rattle.crn_consts.proofs.from_linear.Goals as goal

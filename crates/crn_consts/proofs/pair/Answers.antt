@@ -1,5 +1,4 @@
 -- Two entries of a table, one after the other.
-use borrow.Author.Rules.{rules}
 use Rattle.crn_consts.proofs.pair.Goals as goal
 
 pub returns : goal.returns

@@ -3,7 +3,6 @@ use native.Mathlib.Omega.{arith}
 use Rattle.crn_format.specs.Level.{tile_counts}
 use Rattle.crn_consts.proofs.Table.{each_below}
 use Rattle.crn_consts.proofs.Packed.{digit, computed, past_end}
-use borrow.Author.Rules.{rules}
 use Rattle.crn_consts.proofs.tile_count.Goals as goal
 
 pub returns-then-encoding-lt8 : goal.returns-then-encoding-lt8

@@ -7,7 +7,6 @@ use lib.ListN.{length, get_or}
 use Rattle.crn_format.specs.Level.{tile_map, tile_at}
 use Rattle.crn_consts.specs.Tiles.{tile_in}
 use Rattle.crn_consts.proofs.Packed.{digit, up_to, computed}
-use borrow.Author.Rules.{rules}
 use Rattle.crn_consts.proofs.tiles.Goals as goal
 
 -- the byte of an encoding, by its upper and its lower tiles

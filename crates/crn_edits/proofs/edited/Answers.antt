@@ -1,5 +1,4 @@
 -- The record with one edit made.
-use borrow.Author.Rules.{rules}
 use Rattle.crn_edits.proofs.edited.Goals as goal
 
 pub returns : goal.returns

@@ -1,5 +1,4 @@
 -- A palette's part with one edit made.
-use borrow.Author.Rules.{rules}
 use Rattle.crn_edits.proofs.edited_part.Goals as goal
 
 pub returns : goal.returns

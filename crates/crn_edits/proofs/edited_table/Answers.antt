@@ -1,5 +1,4 @@
 -- A table with one edit made.
-use borrow.Author.Rules.{rules}
 use Rattle.crn_edits.proofs.edited_table.Goals as goal
 
 pub returns : goal.returns

@@ -3,7 +3,6 @@ use native.Mathlib.Omega.{arith}
 use borrow.Author.Tests.{le-leb, lt-leb}
 use Rattle.crn_format.specs.Header.{signed_in}
 use Rattle.crn_header.proofs.Signature.{two_bytes, unsigned}
-use borrow.Author.Rules.{rules}
 use Rattle.crn_header.proofs.is_signed.Goals as goal
 
 pub returns-then-length-lt-MIN_SIZE : goal.returns-then-length-lt-MIN_SIZE

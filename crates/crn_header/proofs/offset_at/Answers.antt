@@ -1,6 +1,5 @@
 -- A level's offset, zero where the file has no such level.
 use borrow.Author.Tests.{lt-ltb, le-ltb}
-use borrow.Author.Rules.{rules}
 use Rattle.crn_header.proofs.offset_at.Goals as goal
 
 pub returns-then-i-levels : goal.returns-then-i-levels

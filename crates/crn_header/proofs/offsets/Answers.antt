@@ -1,4 +1,4 @@
-use Prim.Native.Nat.{ℕ, suc, ◌+◌, ◌-◌, ◌<◌, ◌≤◌}
+use Prim.Native.Nat.{ℕ, suc, ◌+◌, ◌-◌, ◌<◌}
 use mathlib.Core.Path.{◌≡◌, refl, sym, ◌∙◌}
 use mathlib.Core.List.{List, ◌++◌, append_assoc, append-nil}
 use native.Mathlib.Omega.{arith}
@@ -11,7 +11,7 @@ use Rattle.crn_header.proofs.offsets.Goals as goal
 
 more : (file : List ℕ) (levels : ℕ) (a : List ℕ) (i v : ℕ) → i < length a → i < max_levels → v ≡ offset_at file levels i
     → take (i + 1) (set a i v) ++ offsets_from file levels (i + 1) (max_levels - (i + 1)) ≡ take i a ++ offsets_from file levels i
-        (max_levels - i)
+    (max_levels - i)
 unfolding offsets_from
 more file levels a i v h l e =
     let n : max_levels - i ≡ suc (max_levels - (i + 1)) = omega arith in
@@ -23,9 +23,14 @@ loop-i-init c = (omega arith, (refl, refl))
 pub loop-i-preserved : goal.loop-i-preserved
 loop-i-preserved c =
     let s = c.args in
-    let w = c.loop-i in
-    (omega arith, (simp length-set w.invariant.1.0, more s.file.now s.levels w.a w.i c.offset_at.result (omega arith) (omega arith)
-        c.offset_at.ensures ∙ w.invariant.1.1))
+    let w = c.loop-i in (
+      omega arith,
+      (
+        simp length-set w.invariant.1.0,
+        more s.file.now s.levels w.a w.i c.offset_at.result (omega arith) (omega arith)
+            c.offset_at.ensures ∙ w.invariant.1.1,
+      ),
+    )
 
 pub returns : goal.returns
 unfolding offsets_from

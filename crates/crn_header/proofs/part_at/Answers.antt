@@ -1,5 +1,4 @@
 -- A part's offset, size and count.
-use borrow.Author.Rules.{rules}
 use Rattle.crn_header.proofs.part_at.Goals as goal
 
 pub returns : goal.returns

@@ -1,6 +1,5 @@
 -- The next level's offset, or the file's end.
 use borrow.Author.Tests.{lt-ltb, le-ltb}
-use borrow.Author.Rules.{rules}
 use Rattle.crn_level_checks.proofs.level_end.Goals as goal
 
 pub returns-then-next-h : goal.returns-then-next-h

@@ -1,6 +1,5 @@
 -- The lent palettes that are filled are long enough.
 use Rattle.crn_format.specs.Opening.{room_for}
-use borrow.Author.Rules.{rules}
 use Rattle.crn_segments.proofs.room_for.Goals as goal
 
 pub returns : goal.returns

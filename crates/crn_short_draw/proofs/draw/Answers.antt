@@ -1,7 +1,6 @@
 -- A symbol by the entry of the next bits; where there is none, as `crn_symbol_codec::draw` finds it.
 use mathlib.Core.Path.{refl}
 use native.Mathlib.Omega.{arith}
-use borrow.Author.Rules.{rules}
 use Rattle.crn_symbol_codec.specs.Cursors.{Enough}
 use Rattle.crn_symbol_codec.proofs.Seeking.{entries-length}
 use Rattle.crn_symbol_codec.proofs.Drawing.{in_entries, entry_length, entry_found}
@@ -28,5 +27,5 @@ returns c =
     let some : Enough c.args.seg.now c.args.c 16 = λ few. omega (arith, c.if-c-lt16.false) in
     let l = entry_length c.requires.holds some c.requires.usable _ refl c.if-e-eq0.false in
     let r = entry_found c.requires.holds some c.requires.usable _ refl c.if-e-eq0.false
-        (omega (arith, l, c.requires.usable.few, c.if-c-lt16.false)) in
+    (omega (arith, l, c.requires.usable.few, c.if-c-lt16.false)) in
     λ ls d. takes-symbol r d

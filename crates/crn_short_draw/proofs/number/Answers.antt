@@ -1,6 +1,5 @@
 -- A number by the bits at hand; where they may be too few, as `crn_symbol_codec::number` reads it.
 use native.Mathlib.Omega.{arith}
-use borrow.Author.Rules.{rules}
 use Rattle.crn_symbol_codec.specs.Cursors.{place, Enough}
 use Rattle.crn_symbol_codec.proofs.Taking.{field-small, number_is, takes-number}
 use Rattle.crn_short_draw.proofs.number.Goals as goal

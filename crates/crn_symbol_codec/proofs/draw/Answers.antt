@@ -1,7 +1,6 @@
 -- A symbol, after a refill where it may need one.
 use Prim.Native.Nat.{◌<◌}
 use native.Mathlib.Omega.{arith}
-use borrow.Author.Rules.{rules}
 use Rattle.crn_symbol_codec.proofs.Taking.{takes_at}
 use Rattle.crn_symbol_codec.proofs.draw.Goals as goal
 

@@ -1,7 +1,6 @@
 -- A symbol by the code that the bits begin with.
 use mathlib.Core.Path.{sym, ◌∙◌}
 use native.Mathlib.Omega.{arith}
-use borrow.Author.Rules.{rules}
 use Rattle.crn_symbol_codec.proofs.Drawing.{found-length, found-ended, found-drawn, none-short, none_begins}
 use Rattle.crn_symbol_codec.proofs.Taking.{takes-symbol}
 use Rattle.crn_symbol_codec.proofs.draw_ready.Goals as goal

@@ -1,7 +1,6 @@
 -- The code that the bits begin with, by the entry of the first of them, or the long way where that is 0.
 use mathlib.Core.Path.{sym, ◌∙◌}
 use native.Mathlib.Omega.{arith}
-use borrow.Author.Rules.{rules}
 use Rattle.crn_symbol_codec.proofs.Seeking.{entries-length, within-entries, entry-short, short-found}
 use Rattle.crn_symbol_codec.proofs.entry.Goals as goal
 

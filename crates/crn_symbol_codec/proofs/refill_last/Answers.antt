@@ -2,7 +2,6 @@
 use Prim.Native.Nat.{◌-◌, ◌/◌}
 use native.Mathlib.Omega.{arith}
 use lib.ListN.{length}
-use borrow.Author.Rules.{rules}
 use Rattle.crn_symbol_codec.proofs.Holding.{filled}
 use Rattle.crn_symbol_codec.proofs.refill_last.Goals as goal
 

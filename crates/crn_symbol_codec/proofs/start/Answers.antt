@@ -6,8 +6,7 @@ use Rattle.crn_symbol_codec.proofs.Cut.{cut_zero}
 use Rattle.crn_symbol_codec.proofs.start.Goals as goal
 
 pub returns : goal.returns
-returns c =
-    (
+returns c = (
   record {
     some = search rules;
     within = search rules;

@@ -2,7 +2,6 @@
 use native.Mathlib.Omega.{arith}
 use native.Mathlib.Nat.{add-zero}
 use Rattle.crn_format.specs.Header.{field}
-use borrow.Author.Rules.{rules}
 use Rattle.crn_utils.proofs.big16.Goals as goal
 
 pub returns : goal.returns

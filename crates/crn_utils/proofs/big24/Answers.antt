@@ -1,7 +1,6 @@
 -- One byte more than `big16`.
 use native.Mathlib.Omega.{arith}
 use Rattle.crn_format.specs.Header.{field}
-use borrow.Author.Rules.{rules}
 use Rattle.crn_utils.proofs.big24.Goals as goal
 
 pub returns : goal.returns

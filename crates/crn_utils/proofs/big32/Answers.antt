@@ -1,7 +1,6 @@
 -- One byte more than `big24`.
 use native.Mathlib.Omega.{arith}
 use Rattle.crn_format.specs.Header.{field}
-use borrow.Author.Rules.{rules}
 use Rattle.crn_utils.proofs.big32.Goals as goal
 
 pub returns : goal.returns

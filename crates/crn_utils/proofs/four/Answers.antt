@@ -4,7 +4,6 @@ use native.Mathlib.Omega.{arith}
 use native.Mathlib.Nat.{add_assoc}
 use Rattle.crn_utils.specs.Little.{little_at}
 use Rattle.crn_utils.proofs.Words.{past_end}
-use borrow.Author.Rules.{rules}
 use Rattle.crn_utils.proofs.four.Goals as goal
 
 pub returns-then-s-at : goal.returns-then-s-at

@@ -1,7 +1,6 @@
 -- Two times four bytes.
 use native.Mathlib.Omega.{arith}
 use Rattle.crn_utils.proofs.Words.{halves}
-use borrow.Author.Rules.{rules}
 use Rattle.crn_utils.proofs.little64.Goals as goal
 
 pub returns : goal.returns

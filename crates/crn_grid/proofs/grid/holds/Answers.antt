@@ -5,7 +5,6 @@ use native.Mathlib.Omega.{arith}
 use native.Mathlib.Nat.{zero-mul, mul_comm, le-div_iff_mul-le}
 use borrow.Author.Tests.{le-leb}
 use Rattle.crn_formats.proofs.Joined.{agree}
-use borrow.Author.Rules.{rules}
 use Rattle.crn_grid.proofs.grid.holds.Goals as goal
 
 pub returns-then-pieces-eq0 : goal.returns-then-pieces-eq0

@@ -6,7 +6,6 @@ use native.Mathlib.Nat.{div-eq_of_lt, lt_of_lt_of_le}
 use lib.Dec.{lit<}
 use lib.Pow.{pow_mono}
 use borrow.Author.Tests.{eq-eqb, ne_eqb}
-use borrow.Author.Rules.{rules}
 use Rattle.crn_grid.proofs.grid.pixels.Goals as goal
 
 pub returns-then-n-gt0 : goal.returns-then-n-gt0

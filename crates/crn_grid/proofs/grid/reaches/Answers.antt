@@ -4,7 +4,6 @@ use mathlib.Core.Path.{sym, ◌∙◌}
 use native.Mathlib.Omega.{arith}
 use borrow.Author.Tests.{leb-true, leb-false}
 use Rattle.crn_grid.proofs.Reach.{short, by_faces}
-use borrow.Author.Rules.{rules}
 use Rattle.crn_grid.proofs.grid.reaches.Goals as goal
 
 pub overflow_sub-n-then-holds-2 : goal.overflow_sub-n-then-holds-2
@@ -28,7 +27,7 @@ returns-then-holds c =
     let row = c.row_bytes-row.ensures a.pitch a.distance in
     rw c.but_one.ensures at c.holds-then-holds.ensures
     ∙ by_faces a.h a.level a.pitch a.distance a.n rows row (omega
-        (arith, leb-true ((c.rows_of-rows.result - 1) * a.pitch) (a.n - c.row_bytes-row.result) (sym c.holds.ensures ∙ c.if-holds.true)))
+    (arith, leb-true ((c.rows_of-rows.result - 1) * a.pitch) (a.n - c.row_bytes-row.result) (sym c.holds.ensures ∙ c.if-holds.true)))
 
 pub returns-else-holds : goal.returns-else-holds
 returns-else-holds c =

@@ -5,7 +5,6 @@ use lib.Dec.{lit<}
 use Rattle.crn_format.specs.Header.{kind_of}
 use Rattle.crn_format.specs.Unpacking.{grid_of}
 use Rattle.crn_formats.proofs.ByFormat.{bytes-at-most}
-use borrow.Author.Rules.{rules}
 use Rattle.crn_grid.proofs.grid.row_bytes.Goals as goal
 
 pub overflow_mul-result : goal.overflow_mul-result

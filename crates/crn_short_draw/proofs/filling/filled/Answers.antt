@@ -1,6 +1,5 @@
 -- A refill gives more bits than are wanted.
 use native.Mathlib.Omega.{arith}
-use borrow.Author.Rules.{rules}
 use Rattle.crn_short_draw.proofs.filling.filled.Goals as goal
 
 pub returns-then-c-lt16 : goal.returns-then-c-lt16
