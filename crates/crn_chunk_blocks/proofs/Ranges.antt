@@ -9,7 +9,7 @@ use borrow.Author.Tests.{ltb-true}
 use lib.Dec.{ltb}
 use lib.ListN.{get_or, drop}
 use lib.Seq.{get_or-take, get_or-drop}
-use Rattle.crn_format.specs.Choice.{pick, not, either}
+use Rattle.crn_format.specs.Choice.{not, either}
 use Rattle.crn_format.specs.Reading.{Reading, answer, refuse, symbol, next, got, run}
 use Rattle.crn_format.specs.Level.{Plane, Running, Chunk, stepped, endpoint_index, selector_index, endpoint_indices, plane_endpoints, plane_selectors, position_selectors, encoding, tile_counts, tile_at, chunk}
 use Rattle.crn_format.specs.Grid.{Shade, color, alpha}
@@ -23,7 +23,7 @@ use Rattle.crn_chunks.specs.declared.Stream.{Stream}
 use Rattle.crn_chunks.specs.declared.Chunked.{Chunked}
 use Rattle.crn_chunks.specs.declared.Chunked.TheVariants.{Read}
 use Rattle.crn_blocks.specs.Halves.{Has, Reach}
-use Rattle.crn_chunk_blocks.specs.Blocks.{shade_of, Reaches, Filled, AllFilled}
+use Rattle.crn_chunk_blocks.specs.Blocks.{shade_of, Reaches, AllFilled}
 use Rattle.crn_chunk_blocks.proofs.Positions.{tile_below}
 
 -- ---- lists

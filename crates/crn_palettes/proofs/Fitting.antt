@@ -1,6 +1,6 @@
 -- The lengths of a table that is accepted: none is above 16, and there are 8,192 at most.
 use Prim.Native.Nat.{ℕ, zero, suc, ◌+◌, ◌-◌, ◌≤◌}
-use mathlib.Core.Bool.{true, false}
+use mathlib.Core.Bool.{true}
 use mathlib.Core.List.{List, [], ◌++◌}
 use mathlib.Core.Path.{◌≡◌, refl, ap, ◌∙◌}
 use native.Mathlib.Omega.{arith}
@@ -9,7 +9,7 @@ use lib.ListN.{length, replicate, length-append, length-replicate}
 use lib.Seq.{take_all}
 use lib.Dec.{leb, eqb, ltb}
 use borrow.Author.Tests.{ltb-false}
-use Rattle.crn_format.specs.Choice.{pick, either}
+use Rattle.crn_format.specs.Choice.{either}
 use Rattle.crn_format.specs.Limits.{max_symbols}
 use Rattle.crn_format.specs.Codes.{is_code, all_fit}
 use Rattle.crn_format.specs.Reading.{got, Source, run}

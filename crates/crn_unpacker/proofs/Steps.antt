@@ -9,8 +9,6 @@ use borrow.Author.Tests.{eq-eqb, ne_eqb}
 use lib.ListN.{get_or}
 use lib.Dec.{eqb, ltb}
 use Rattle.crn_format.specs.Choice.{pick}
-use Rattle.crn_format.specs.Reading.{got}
-use Rattle.crn_format.specs.Level.{chunk}
 use Rattle.crn_format.specs.Grid.{chunk_columns}
 use Rattle.crn_format.specs.declared.Grid.{Grid}
 use Rattle.crn_symbol_codec.specs.Cursors.{Holds}

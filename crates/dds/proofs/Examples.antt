@@ -13,8 +13,6 @@ use Rattle.crn_format.specs.Grid.{inside, insides, little, half, halves, nth_lis
 use Rattle.crn_format.specs.Grid.{row_painted, face_painted, painted, row_cutouts, face_cutouts, cutouts}
 use Rattle.crn_format.specs.Header.{kind_of, within_limits}
 use Rattle.crn_format.specs.Unpacking.{tables_hold, level_stands, palettes_reach, grid_of, per_plane, cutout_count, ended, drawn_level, unpacking}
-use Rattle.crn_format.specs.declared.Header.{Header}
-use Rattle.crn_format.specs.declared.Record.{Record}
 use Rattle.crn_sizes.specs.Sizes.{level_sizes}
 use Rattle.crn_levels.proofs.Examples.{header, small, palettes, block, four}
 use Rattle.picture.specs.declared.Picture.{Picture}

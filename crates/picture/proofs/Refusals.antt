@@ -11,7 +11,6 @@ use Rattle.crn_format.specs.Unpacking.{tables_hold}
 use Rattle.crn_format.specs.declared.Header.{Header}
 use Rattle.crn_format.specs.declared.Record.{Record}
 use Rattle.picture.specs.declared.Written.{Written}
-use Rattle.picture.specs.declared.Needed.{Needed}
 use Rattle.picture.specs.Kinds.{goes_out}
 use Rattle.picture.specs.Writing.{Container, early, writing}
 use Rattle.picture.specs.Answers.{stopped_by, Writes, needed_for}

@@ -12,9 +12,8 @@ use Rattle.crn_format.specs.Opening.{Palettes}
 use Rattle.crn_format.specs.Unpacking.{tables_hold}
 use Rattle.crn_format.specs.declared.Header.{Header}
 use Rattle.crn_format.specs.declared.Record.{Record}
-use Rattle.picture.specs.declared.Written.{Written}
 use Rattle.picture.specs.Kinds.{goes_out}
-use Rattle.picture.specs.Writing.{Sums, Stop, Put, put, stopped, put_from, nothing, Container, finished, writing}
+use Rattle.picture.specs.Writing.{Put, put, stopped, put_from, nothing, Container, finished, writing}
 use Rattle.picture.specs.Answers.{wrote_by, stopped_by, Writes}
 use Rattle.picture_levels.specs.declared.LevelsPut.{LevelsPut}
 use Rattle.picture_levels.specs.declared.LevelsPut.TheVariants.{Through, Stopped}

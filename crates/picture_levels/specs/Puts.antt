@@ -1,5 +1,5 @@
 -- What putting the levels into their places answers, and leaves there.
-use Rattle.std.specs.Prelude.{ℕ, ◌+◌, ◌≡◌, List}
+use Rattle.std.specs.Prelude.{ℕ, ◌≡◌, List}
 use Rattle.crn_format.specs.Opening.{zeros}
 use Rattle.crn_drawing.specs.declared.Unpacked.{Unpacked}
 use Rattle.crn_drawing.specs.declared.Unpacked.TheVariants.{Blocks, Refused}

@@ -1,6 +1,5 @@
 -- The palette of the words, and the selectors.
 use Rattle.bcn_blocks.proofs.Laws.{bc1_there}
-use borrow.Author.Rules.{rules}
 use Rattle.bcn_blocks.proofs.bc1_at.Goals as goal
 
 pub returns : goal.returns

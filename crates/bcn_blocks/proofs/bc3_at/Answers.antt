@@ -1,6 +1,5 @@
 -- Colours, and levels as alpha.
 use Rattle.bcn_blocks.proofs.Laws.{bc3_addable, bc3-there}
-use borrow.Author.Rules.{rules}
 use Rattle.bcn_blocks.proofs.bc3_at.Goals as goal
 
 pub added_rows-requires : goal.added_rows-requires

@@ -1,6 +1,5 @@
 -- The table of the ends, and the selectors.
 use Rattle.bcn_blocks.proofs.Laws.{bc4_there}
-use borrow.Author.Rules.{rules}
 use Rattle.bcn_blocks.proofs.bc4_at.Goals as goal
 
 pub returns : goal.returns

@@ -1,6 +1,5 @@
 -- Two halves of levels, added.
 use Rattle.bcn_blocks.proofs.Laws.{bc5_addable, bc5_there}
-use borrow.Author.Rules.{rules}
 use Rattle.bcn_blocks.proofs.bc5_at.Goals as goal
 
 pub added_rows-requires : goal.added_rows-requires

@@ -1,17 +1,14 @@
-use Prim.Native.Nat.{ℕ, ◌+◌, ◌*◌, ◌-◌, ◌/◌, ◌%◌, ◌≤◌}
+use Prim.Native.Nat.{ℕ, ◌+◌, ◌*◌, ◌-◌, ◌/◌, ◌%◌}
 use mathlib.Core.Path.{◌≡◌, sym, ap, subst, ◌∙◌}
 use lib.ListN.{length}
 use Rattle.crn_format.specs.Grid.{place_of}
-use Rattle.crn_format.specs.Opening.{Palettes}
-use mathlib.Core.Logic.{⊎_elim}
 use native.Mathlib.Omega.{arith}
 use Rattle.crn_formats.specs.Lent.{lent_of}
-use Rattle.crn_blocks.specs.Sheet.{In, Painted, chunk_number}
+use Rattle.crn_blocks.specs.Sheet.{In, chunk_number}
 use Rattle.crn_blocks.proofs.Places.{Lies, lies, room-kept}
 use Rattle.crn_blocks.proofs.Paint.{start, then, until, put_in, skipped}
-use Rattle.crn_chunk_blocks.specs.Blocks.{block_in, Filled}
+use Rattle.crn_chunk_blocks.specs.Blocks.{Filled}
 use Rattle.crn_chunk_blocks.proofs.Positions.{by_byte, same_block, block-sized, in_grid, off_grid, inside_so, place_by, first_in}
-use borrow.Author.Rules.{rules}
 use Rattle.crn_chunk_blocks.proofs.blocks.Goals as goal
 use Rattle.crn_chunk_blocks.proofs.blocks.Goals.{then-right-q, else-right-q}
 
@@ -49,58 +46,83 @@ overflow_mul-at c = let l : Lies c.args.g c.args.face (2 * c.args.cx + c.loop-q.
     (length c.args.dst.now) = lies c.requires.placeable.room ((let it : In c.args.g c.args.face (2 * c.args.cx + c.loop-q.q % 2)
     (2 * c.args.cy + c.loop-q.q / 2) = (let a = c.args in
     in_grid a.g a.face a.cx a.cy c.loop-q.q a.right a.bottom c.requires.covered c.loop-q-test.true c.requires.sides c.if-right-q.true) in
-        it)) in omega (arith, (let it : (c.args.face * c.args.g.distance + 2 * c.args.cy * c.args.g.pitch + 2 * c.args.cx * c.args.g.bytes
-    + c.loop-q.q / 2 * c.args.g.pitch + c.loop-q.q % 2 * c.args.g.bytes
-    ≡ place_of c.args.g c.args.face (2 * c.args.cx + c.loop-q.q % 2) (2 * c.args.cy + c.loop-q.q / 2)) =
-        (let a = c.args in place_by a.g a.face a.cx a.cy c.loop-q.q) in it), c.well_formed.0.0)
+    it)) in omega (
+      arith,
+      (let it : (c.args.face * c.args.g.distance + 2 * c.args.cy * c.args.g.pitch + 2 * c.args.cx * c.args.g.bytes
+          + c.loop-q.q / 2 * c.args.g.pitch + c.loop-q.q % 2 * c.args.g.bytes
+          ≡ place_of c.args.g c.args.face (2 * c.args.cx + c.loop-q.q % 2) (2 * c.args.cy + c.loop-q.q / 2)) =
+          (let a = c.args in place_by a.g a.face a.cx a.cy c.loop-q.q) in it),
+      c.well_formed.0.0,
+    )
 
 pub overflow_add-at : goal.overflow_add-at
 overflow_add-at c = let l : Lies c.args.g c.args.face (2 * c.args.cx + c.loop-q.q % 2) (2 * c.args.cy + c.loop-q.q / 2)
     (length c.args.dst.now) = lies c.requires.placeable.room ((let it : In c.args.g c.args.face (2 * c.args.cx + c.loop-q.q % 2)
     (2 * c.args.cy + c.loop-q.q / 2) = (let a = c.args in
     in_grid a.g a.face a.cx a.cy c.loop-q.q a.right a.bottom c.requires.covered c.loop-q-test.true c.requires.sides c.if-right-q.true) in
-        it)) in omega (arith, (let it : (c.args.face * c.args.g.distance + 2 * c.args.cy * c.args.g.pitch + 2 * c.args.cx * c.args.g.bytes
-    + c.loop-q.q / 2 * c.args.g.pitch + c.loop-q.q % 2 * c.args.g.bytes
-    ≡ place_of c.args.g c.args.face (2 * c.args.cx + c.loop-q.q % 2) (2 * c.args.cy + c.loop-q.q / 2)) =
-        (let a = c.args in place_by a.g a.face a.cx a.cy c.loop-q.q) in it), c.well_formed.0.0)
+    it)) in omega (
+      arith,
+      (let it : (c.args.face * c.args.g.distance + 2 * c.args.cy * c.args.g.pitch + 2 * c.args.cx * c.args.g.bytes
+          + c.loop-q.q / 2 * c.args.g.pitch + c.loop-q.q % 2 * c.args.g.bytes
+          ≡ place_of c.args.g c.args.face (2 * c.args.cx + c.loop-q.q % 2) (2 * c.args.cy + c.loop-q.q / 2)) =
+          (let a = c.args in place_by a.g a.face a.cx a.cy c.loop-q.q) in it),
+      c.well_formed.0.0,
+    )
 
 pub overflow_mul-at-then-right-q : goal.overflow_mul-at-then-right-q
 overflow_mul-at-then-right-q c = let l : Lies c.args.g c.args.face (2 * c.args.cx + c.loop-q.q % 2) (2 * c.args.cy + c.loop-q.q / 2)
     (length c.args.dst.now) = lies c.requires.placeable.room ((let it : In c.args.g c.args.face (2 * c.args.cx + c.loop-q.q % 2)
     (2 * c.args.cy + c.loop-q.q / 2) = (let a = c.args in
     in_grid a.g a.face a.cx a.cy c.loop-q.q a.right a.bottom c.requires.covered c.loop-q-test.true c.requires.sides c.if-right-q.true) in
-        it)) in omega (arith, (let it : (c.args.face * c.args.g.distance + 2 * c.args.cy * c.args.g.pitch + 2 * c.args.cx * c.args.g.bytes
-    + c.loop-q.q / 2 * c.args.g.pitch + c.loop-q.q % 2 * c.args.g.bytes
-    ≡ place_of c.args.g c.args.face (2 * c.args.cx + c.loop-q.q % 2) (2 * c.args.cy + c.loop-q.q / 2)) =
-        (let a = c.args in place_by a.g a.face a.cx a.cy c.loop-q.q) in it), c.well_formed.0.0)
+    it)) in omega (
+      arith,
+      (let it : (c.args.face * c.args.g.distance + 2 * c.args.cy * c.args.g.pitch + 2 * c.args.cx * c.args.g.bytes
+          + c.loop-q.q / 2 * c.args.g.pitch + c.loop-q.q % 2 * c.args.g.bytes
+          ≡ place_of c.args.g c.args.face (2 * c.args.cx + c.loop-q.q % 2) (2 * c.args.cy + c.loop-q.q / 2)) =
+          (let a = c.args in place_by a.g a.face a.cx a.cy c.loop-q.q) in it),
+      c.well_formed.0.0,
+    )
 
 pub overflow_add-at-then-right-q : goal.overflow_add-at-then-right-q
 overflow_add-at-then-right-q c = let l : Lies c.args.g c.args.face (2 * c.args.cx + c.loop-q.q % 2) (2 * c.args.cy + c.loop-q.q / 2)
     (length c.args.dst.now) = lies c.requires.placeable.room ((let it : In c.args.g c.args.face (2 * c.args.cx + c.loop-q.q % 2)
     (2 * c.args.cy + c.loop-q.q / 2) = (let a = c.args in
     in_grid a.g a.face a.cx a.cy c.loop-q.q a.right a.bottom c.requires.covered c.loop-q-test.true c.requires.sides c.if-right-q.true) in
-        it)) in omega (arith, (let it : (c.args.face * c.args.g.distance + 2 * c.args.cy * c.args.g.pitch + 2 * c.args.cx * c.args.g.bytes
-    + c.loop-q.q / 2 * c.args.g.pitch + c.loop-q.q % 2 * c.args.g.bytes
-    ≡ place_of c.args.g c.args.face (2 * c.args.cx + c.loop-q.q % 2) (2 * c.args.cy + c.loop-q.q / 2)) =
-        (let a = c.args in place_by a.g a.face a.cx a.cy c.loop-q.q) in it), c.well_formed.0.0)
+    it)) in omega (
+      arith,
+      (let it : (c.args.face * c.args.g.distance + 2 * c.args.cy * c.args.g.pitch + 2 * c.args.cx * c.args.g.bytes
+          + c.loop-q.q / 2 * c.args.g.pitch + c.loop-q.q % 2 * c.args.g.bytes
+          ≡ place_of c.args.g c.args.face (2 * c.args.cx + c.loop-q.q % 2) (2 * c.args.cy + c.loop-q.q / 2)) =
+          (let a = c.args in place_by a.g a.face a.cx a.cy c.loop-q.q) in it),
+      c.well_formed.0.0,
+    )
 
 pub block-requires : goal.block-requires
 block-requires c =
     let l : Lies c.args.g c.args.face (2 * c.args.cx + c.loop-q.q % 2) (2 * c.args.cy + c.loop-q.q / 2) (length c.args.dst.now) = lies
-        c.requires.placeable.room ((let it : In c.args.g c.args.face (2 * c.args.cx + c.loop-q.q % 2) (2 * c.args.cy + c.loop-q.q / 2) =
-        (let a = c.args in
+    c.requires.placeable.room ((let it : In c.args.g c.args.face (2 * c.args.cx + c.loop-q.q % 2) (2 * c.args.cy + c.loop-q.q / 2) =
+    (let a = c.args in
     in_grid a.g a.face a.cx a.cy c.loop-q.q a.right a.bottom c.requires.covered c.loop-q-test.true c.requires.sides c.if-right-q.true) in
-        it)) in
+    it)) in
     let q = c.loop-q.q in
     let t = c.loop-q-test.true in
     let f = c.requires.all_filled q t (inside_so c.args.right c.args.bottom q t c.if-right-q.true) in
-    record { q_in = t; room = omega (arith, (let it : (c.args.face * c.args.g.distance + 2 * c.args.cy * c.args.g.pitch + 2 * c.args.cx *
-        c.args.g.bytes
-    + c.loop-q.q / 2 * c.args.g.pitch + c.loop-q.q % 2 * c.args.g.bytes
-    ≡ place_of c.args.g c.args.face (2 * c.args.cx + c.loop-q.q % 2) (2 * c.args.cy + c.loop-q.q / 2)) =
-        (let a = c.args in place_by a.g a.face a.cx a.cy c.loop-q.q) in it), c.loop-q.invariant.1.long, c.requires.placeable.bytes); filled
-        = subst (λ (k : ℕ). Filled ((lent_of c.args.cends.now c.args.csels.now c.args.aends.now c.args.asels.now)) c.args.ps c.args.out.now
-        k q) (sym (c.tiles-tiles.ensures.each q t)) f }
+    record {
+      q_in = t;
+      room = omega (
+        arith,
+        (let it : (c.args.face * c.args.g.distance + 2 * c.args.cy * c.args.g.pitch + 2 * c.args.cx *
+            c.args.g.bytes
+            + c.loop-q.q / 2 * c.args.g.pitch + c.loop-q.q % 2 * c.args.g.bytes
+            ≡ place_of c.args.g c.args.face (2 * c.args.cx + c.loop-q.q % 2) (2 * c.args.cy + c.loop-q.q / 2)) =
+            (let a = c.args in place_by a.g a.face a.cx a.cy c.loop-q.q) in it),
+        c.loop-q.invariant.1.long,
+        c.requires.placeable.bytes,
+      );
+      filled
+          = subst (λ (k : ℕ). Filled ((lent_of c.args.cends.now c.args.csels.now c.args.aends.now c.args.asels.now)) c.args.ps c.args.out.now
+          k q) (sym (c.tiles-tiles.ensures.each q t)) f;
+    }
 
 pub overflow_add-q : goal.overflow_add-q
 overflow_add-q c = omega (arith, c.loop-q-test.true)
@@ -118,21 +140,21 @@ loop-q-preserved c =
     let of = by_byte p a.ps a.e a.out.now c.tiles-tiles.result q c.requires.placeable.known t c.tiles-tiles.ensures in (
       omega arith,
       elim c.if-right-q.branch [
-        then-right-q w ↦
-          rw w.dst-is
-          (until (omega arith)
-          (then c.requires.placeable.room (omega arith) (omega arith) i.1
-          (put_in a.face a.cx a.cy q (room-kept c.requires.placeable.room i.1.long) t
-          (in_grid a.g a.face a.cx a.cy q a.right a.bottom c.requires.covered t c.requires.sides w.if-right-q.true)
-          (place_by a.g a.face a.cx a.cy q) w.block.ensures
-          (of ∙ same_block p a.ps a.e a.out.now (chunk_number a.g a.face a.cx a.cy) q)
-          (ap length of ∙ block-sized p a.ps a.e a.out.now q ∙ sym c.requires.placeable.bytes))))
-      | else-right-q w ↦
-          rw w.dst-is
-          (until (omega arith)
-          (then c.requires.placeable.room (omega arith) (omega arith) i.1
-          (skipped a.face a.cx a.cy q c.requires.covered t
-          (off_grid a.g a.face a.cx a.cy q a.right a.bottom c.requires.covered t c.requires.sides w.if-right-q.false))))
+        | then-right-q w ↦
+            rw w.dst-is
+            (until (omega arith)
+            (then c.requires.placeable.room (omega arith) (omega arith) i.1
+            (put_in a.face a.cx a.cy q (room-kept c.requires.placeable.room i.1.long) t
+            (in_grid a.g a.face a.cx a.cy q a.right a.bottom c.requires.covered t c.requires.sides w.if-right-q.true)
+            (place_by a.g a.face a.cx a.cy q) w.block.ensures
+            (of ∙ same_block p a.ps a.e a.out.now (chunk_number a.g a.face a.cx a.cy) q)
+            (ap length of ∙ block-sized p a.ps a.e a.out.now q ∙ sym c.requires.placeable.bytes))))
+        | else-right-q w ↦
+            rw w.dst-is
+            (until (omega arith)
+            (then c.requires.placeable.room (omega arith) (omega arith) i.1
+            (skipped a.face a.cx a.cy q c.requires.covered t
+            (off_grid a.g a.face a.cx a.cy q a.right a.bottom c.requires.covered t c.requires.sides w.if-right-q.false))))
       ],
     )
 

@@ -1,18 +1,8 @@
 -- The invariant: the positions before q are painted, those of them that lie inside the grid.
-use Prim.Native.Nat.{ℕ, ◌+◌, ◌*◌, ◌-◌, ◌/◌, ◌%◌, ◌≤◌}
-use mathlib.Core.Path.{◌≡◌, sym, ap, subst, ◌∙◌}
-use lib.ListN.{length}
-use Rattle.crn_format.specs.Grid.{place_of}
-use Rattle.crn_format.specs.Opening.{Palettes}
-use mathlib.Core.Logic.{⊎_elim}
-use native.Mathlib.Omega.{arith}
+use Prim.Native.Nat.{◌+◌, ◌*◌, ◌-◌, ◌≤◌}
 use Rattle.crn_formats.specs.Lent.{lent_of}
-use Rattle.crn_blocks.specs.Sheet.{In, Painted, chunk_number}
-use Rattle.crn_blocks.proofs.Places.{Lies, lies, room-kept}
-use Rattle.crn_blocks.proofs.Paint.{start, then, until, put_in, skipped}
-use Rattle.crn_chunk_blocks.specs.Blocks.{block_in, Filled}
-use Rattle.crn_chunk_blocks.proofs.Positions.{by_byte, same_block, block-sized, in_grid, off_grid, inside_so, place_by, first_in}
-use borrow.Author.Rules.{rules}
+use Rattle.crn_blocks.specs.Sheet.{Painted, chunk_number}
+use Rattle.crn_chunk_blocks.specs.Blocks.{block_in}
 use Rattle.crn_chunk_blocks.proofs.blocks.Given as goal
 
 abbrev pub invariant-loop-q : goal.invariant-loop-q

@@ -3,7 +3,6 @@ use Prim.Native.Nat.{ℕ}
 use mathlib.Core.List.{List}
 use mathlib.Core.Path.{refl, sym}
 use native.Mathlib.Omega.{arith}
-use borrow.Author.Rules.{rules}
 use Rattle.crn_format.specs.Reading.{a_symbol}
 use Rattle.crn_symbol_codec.specs.Decoders.{Usable, Decodes}
 use Rattle.crn_symbol_codec.specs.Taking.{Takes}
@@ -49,8 +48,11 @@ slice_bounds-draw-end-2 c =
 
 pub draw-requires : goal.draw-requires
 draw-requires c =
-    record { holds = c.requires.ready.holds; usable = in_slices Usable c.args.ps c.args.lookup.now c.args.sorted.now c.args.which
-        (c.requires.ready.served.coded c.args.which c.requires.which_in).usable }
+    record {
+      holds = c.requires.ready.holds;
+      usable = in_slices Usable c.args.ps c.args.lookup.now c.args.sorted.now c.args.which
+          (c.requires.ready.served.coded c.args.which c.requires.which_in).usable;
+    }
 
 pub returns : goal.returns
 returns c =

@@ -2,7 +2,6 @@
 use Prim.Native.Nat.{◌<◌}
 use mathlib.Core.Path.{sym, ap, subst, ◌∙◌}
 use native.Mathlib.Omega.{arith}
-use borrow.Author.Rules.{rules}
 use Rattle.crn_format.specs.Reading.{budgeted, from_bits}
 use Rattle.crn_symbol_codec.specs.Cursors.{Holds}
 use Rattle.crn_chunks.specs.Meaning.{source, spending}
@@ -14,12 +13,19 @@ use Rattle.crn_chunks.proofs.index.Goals as goal
 pub returns-in_default : goal.returns-in_default
 returns-in_default c =
     let e = c.in_default.is in
-    record { same = λ cs k. ap (drew (λ v. v)) e ∙ sym (index_lost (source c.args.seg.now) (cs c.args.which) c.args.size c.args.inside
-        c.args.i (spending c.args.s) (sym (c.take-a.ensures.same cs k) ∙ ap (drew (λ v. v)) e)); on = subst (WhenDrew _) (sym e) tt }
+    record {
+      same = λ cs k. ap (drew (λ v. v)) e ∙ sym (index_lost (source c.args.seg.now) (cs c.args.which) c.args.size c.args.inside
+          c.args.i (spending c.args.s) (sym (c.take-a.ensures.same cs k) ∙ ap (drew (λ v. v)) e));
+      on = subst (WhenDrew _) (sym e) tt;
+    }
 
 pub overflow_add-i : goal.overflow_add-i
-overflow_add-i c = omega (arith, c.requires.i_in, (when_drew (λ v t. Holds c.args.seg.now t.cursor × (v < farthest)) c.take-a.ensures.on
-    c.in-Got.is).1)
+overflow_add-i c = omega (
+  arith,
+  c.requires.i_in,
+  (when_drew (λ v t. Holds c.args.seg.now t.cursor × (v < farthest)) c.take-a.ensures.on
+      c.in-Got.is).1,
+)
 
 pub returns-then-j-size : goal.returns-then-j-size
 returns-then-j-size c =

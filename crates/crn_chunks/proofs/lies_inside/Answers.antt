@@ -1,7 +1,6 @@
 -- Whether a position lies inside.
 use mathlib.Core.Path.{◌≡◌}
 use native.Mathlib.Omega.{arith}
-use borrow.Author.Rules.{rules}
 use Rattle.crn_chunks.proofs.lies_inside.Goals as goal
 
 pub returns-then-right : goal.returns-then-right

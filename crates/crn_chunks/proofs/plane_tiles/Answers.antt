@@ -1,15 +1,23 @@
 use Prim.Native.Nat.{◌-◌}
 use native.Mathlib.Omega.{arith}
-use borrow.Author.Rules.{rules}
-use Rattle.crn_chunks.proofs.Tiling.{Tiling, tiling_none, tiling_more, tiling_lost, tiling_done}
+use Rattle.crn_chunks.proofs.Tiling.{tiling_none, tiling_more, tiling_lost, tiling_done}
 use Rattle.crn_chunks.proofs.plane_tiles.Goals as goal
 
 pub loop-k-init : goal.loop-k-init
 loop-k-init c = tiling_none _ c.requires.ready.holds c.requires.i_in
 
 pub index-a-requires : goal.index-a-requires
-index-a-requires c = record { ready = record { short = c.requires.ready.short; served = c.requires.ready.served; holds =
-    c.loop-k.invariant.holds }; which_in = c.requires.named.ends; size_in = c.requires.small.endpoints; i_in = c.loop-k.invariant.below }
+index-a-requires c = record {
+  ready = record {
+    short = c.requires.ready.short;
+    served = c.requires.ready.served;
+    holds =
+        c.loop-k.invariant.holds;
+  };
+  which_in = c.requires.named.ends;
+  size_in = c.requires.small.endpoints;
+  i_in = c.loop-k.invariant.below;
+}
 
 pub shape_of-out-in_default : goal.shape_of-out-in_default
 shape_of-out-in_default c = c.loop-k.invariant.long

@@ -1,8 +1,6 @@
 -- The endpoint indices of a plane's tiles. The invariant: what is left of them, run from here, ends as all of them do.
 use Prim.Native.Nat.{◌-◌}
-use native.Mathlib.Omega.{arith}
-use borrow.Author.Rules.{rules}
-use Rattle.crn_chunks.proofs.Tiling.{Tiling, tiling_none, tiling_more, tiling_lost, tiling_done}
+use Rattle.crn_chunks.proofs.Tiling.{Tiling}
 use Rattle.crn_chunks.proofs.plane_tiles.Given as goal
 
 abbrev pub invariant-loop-k : goal.invariant-loop-k

@@ -1,8 +1,7 @@
 use Prim.Native.Nat.{◌-◌}
 use lib.ListN.{length-set}
 use native.Mathlib.Omega.{arith}
-use borrow.Author.Rules.{rules}
-use Rattle.crn_chunks.proofs.Picking.{reach-at, Picking, picking_none, picking_more, picking_lost, picking_done}
+use Rattle.crn_chunks.proofs.Picking.{reach-at, picking_none, picking_more, picking_lost, picking_done}
 use Rattle.crn_chunks.proofs.positions.Goals as goal
 
 pub loop-k-init : goal.loop-k-init
@@ -12,8 +11,11 @@ pub position-a-requires : goal.position-a-requires
 position-a-requires c =
     let x = c.loop-k.invariant in
     let f = reach-at c.loop-k.k x.some in
-    record { ready = record { short = c.requires.ready.short; served = c.requires.ready.served; holds = x.holds }; symbols_in =
-        (omega (arith, x.below.0), omega (arith, x.below.1)) }
+    record {
+      ready = record { short = c.requires.ready.short; served = c.requires.ready.served; holds = x.holds };
+      symbols_in =
+          (omega (arith, x.below.0), omega (arith, x.below.1));
+    }
 
 pub shape_of-out-in_default : goal.shape_of-out-in_default
 shape_of-out-in_default c = c.loop-k.invariant.long

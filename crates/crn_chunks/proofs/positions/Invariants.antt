@@ -1,9 +1,6 @@
 -- The selector indices at the four positions. The invariant: what is left of them, run from here, ends as all of them do.
 use Prim.Native.Nat.{◌-◌}
-use lib.ListN.{length-set}
-use native.Mathlib.Omega.{arith}
-use borrow.Author.Rules.{rules}
-use Rattle.crn_chunks.proofs.Picking.{reach-at, Picking, picking_none, picking_more, picking_lost, picking_done}
+use Rattle.crn_chunks.proofs.Picking.{Picking}
 use Rattle.crn_chunks.proofs.positions.Given as goal
 
 abbrev pub invariant-loop-k : goal.invariant-loop-k

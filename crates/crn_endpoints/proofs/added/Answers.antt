@@ -1,5 +1,5 @@
 -- A sum with a delta added, modulo 64 or 32.
-use Rattle.std.proofs.Common.{ℕ, ◌+◌, ◌%◌, ap, rules}
+use Rattle.std.proofs.Common.{ℕ, ◌+◌, ◌%◌, ap}
 use Rattle.crn_endpoints.proofs.added.Goals as goal
 
 pub returns-then-six : goal.returns-then-six

@@ -1,16 +1,11 @@
-use Rattle.std.proofs.Common.{ℕ, ◌-◌, List, ap, ◌∙◌, arith, rules}
-use Rattle.crn_format.specs.Reading.{run, from_bits, spot}
-use Rattle.crn_format.specs.Palettes.{summed, alpha_sums}
-use Rattle.crn_symbol_codec.specs.Cursors.{place, Holds}
-use Rattle.crn_symbol_codec.specs.Decoders.{Decodes}
-use Rattle.crn_symbol_codec.specs.declared.Cursor.{Cursor}
+use Rattle.std.proofs.Common.{◌-◌, ap, ◌∙◌, arith, rules}
+use Rattle.crn_symbol_codec.specs.Cursors.{place}
 use Rattle.crn_symbol_codec.proofs.Taking.{takes_at}
 use Rattle.crn_symbol_codec.proofs.Serving.{taken-holds}
 use Rattle.crn_symbol_codec.specs.Taking.{refusal_of}
 use Rattle.crn_palettes.proofs.Leaving.{reaches_to, reaches-refused}
-use Rattle.crn_endpoints.proofs.Summing.{Summed, sums_none, sum_more, sum-failed, sums_done, alpha-sum, alpha-ended}
+use Rattle.crn_endpoints.proofs.Summing.{sums_none, sum_more, sum-failed, sums_done, alpha-sum, alpha-ended}
 use Rattle.crn_endpoints.proofs.alpha_sums.Goals as goal
-use Rattle.crn_endpoints.proofs.alpha_sums.Invariants.{State}
 
 pub loop-i-init : goal.loop-i-init
 loop-i-init c = record { holds = search rules; sums = λ t d b. sums_none _ _ _ _ b }
@@ -25,7 +20,7 @@ pub returns-in_default : goal.returns-in_default
 returns-in_default c =
     let e = c.in_default.is in
     λ t d b. reaches-refused (sum-failed (c.loop-i.invariant.sums t d b) (alpha-sum t c.loop-i.i (omega arith))
-        (takes_at c.ready-near.ensures.1 (c.draw-t.ensures t d)) e) (c.refusal.ensures ∙ ap refusal_of e) c.place.ensures
+    (takes_at c.ready-near.ensures.1 (c.draw-t.ensures t d)) e) (c.refusal.ensures ∙ ap refusal_of e) c.place.ensures
 
 pub loop-i-preserved : goal.loop-i-preserved
 loop-i-preserved c =

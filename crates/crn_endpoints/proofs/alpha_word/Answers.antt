@@ -1,5 +1,5 @@
 -- The word of an alpha endpoint.
-use Rattle.std.proofs.Common.{◌+◌, ◌*◌, [], ◌∷◌, sym, ap₂, rules}
+use Rattle.std.proofs.Common.{◌+◌, ◌*◌, [], ◌∷◌, sym, ap₂}
 use Rattle.crn_format.specs.Palettes.{alpha_word}
 use Rattle.crn_endpoints.proofs.alpha_word.Goals as goal
 

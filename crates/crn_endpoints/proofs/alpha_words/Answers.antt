@@ -1,7 +1,6 @@
-use Rattle.std.proofs.Common.{ℕ, ◌-◌, List, refl, arith, rules}
-use Rattle.crn_format.specs.Palettes.{summed, alpha_sums, alpha_word}
-use Rattle.crn_symbol_codec.specs.Decoders.{Decodes}
-use Rattle.crn_palettes.proofs.Entering.{Filling, filling_none, filling_more, filling_refused, filling_done}
+use Rattle.std.proofs.Common.{◌-◌, refl, arith}
+use Rattle.crn_format.specs.Palettes.{alpha_sums, alpha_word}
+use Rattle.crn_palettes.proofs.Entering.{filling_none, filling_more, filling_refused, filling_done}
 use Rattle.crn_endpoints.proofs.alpha_words.Goals as goal
 
 pub loop-i-init : goal.loop-i-init
@@ -16,7 +15,7 @@ bounds-out-i c = omega (arith, c.loop-i.invariant.written.long)
 pub loop-i-preserved : goal.loop-i-preserved
 loop-i-preserved c =
     filling_more c.loop-i.invariant c.loop-i-test.true c.alpha_sums.ensures c.requires.some_code.decodes c.in-To.is c.alpha_word.ensures
-        (omega (arith, c.loop-i.invariant.written.long)) refl
+    (omega (arith, c.loop-i.invariant.written.long)) refl
 
 pub returns-in-Refused : goal.returns-in-Refused
 returns-in-Refused c =

@@ -1,8 +1,8 @@
 -- The entries of an alpha endpoint palette. The invariant: those before i are in the buffer, and what is left of them ends as all of them do.
-use Rattle.std.proofs.Common.{ℕ, ◌-◌, List, refl, arith, rules}
+use Rattle.std.proofs.Common.{ℕ, ◌-◌, List}
 use Rattle.crn_format.specs.Palettes.{summed, alpha_sums, alpha_word}
 use Rattle.crn_symbol_codec.specs.Decoders.{Decodes}
-use Rattle.crn_palettes.proofs.Entering.{Filling, filling_none, filling_more, filling_refused, filling_done}
+use Rattle.crn_palettes.proofs.Entering.{Filling}
 use Rattle.crn_endpoints.proofs.alpha_words.Given as goal
 
 abbrev pub invariant-loop-i : goal.invariant-loop-i

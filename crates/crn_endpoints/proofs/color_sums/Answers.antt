@@ -1,17 +1,11 @@
-use Rattle.std.proofs.Common.{ℕ, ◌-◌, List, ap, ◌∙◌, arith, rules}
-use Rattle.crn_format.specs.Reading.{run, from_bits, spot}
-use Rattle.crn_format.specs.Palettes.{summed, color_sums}
-use Rattle.crn_symbol_codec.specs.Cursors.{place, Holds}
-use Rattle.crn_symbol_codec.specs.Decoders.{Decodes}
-use Rattle.crn_symbol_codec.specs.declared.Cursor.{Cursor}
+use Rattle.std.proofs.Common.{◌-◌, ap, ◌∙◌, arith}
+use Rattle.crn_symbol_codec.specs.Cursors.{place}
 use Rattle.crn_symbol_codec.proofs.Taking.{takes_at}
 use Rattle.crn_symbol_codec.proofs.Serving.{taken-holds}
 use Rattle.crn_symbol_codec.specs.Taking.{refusal_of}
-use Rattle.crn_endpoints.specs.Endpoints.{Small}
 use Rattle.crn_palettes.proofs.Leaving.{reaches_to, reaches-refused}
-use Rattle.crn_endpoints.proofs.Summing.{Summed, sums_none, sum_more, sum-failed, sums_done, color-sum, color-ended, small-more}
+use Rattle.crn_endpoints.proofs.Summing.{sums_none, sum_more, sum-failed, sums_done, color-sum, color-ended, small-more}
 use Rattle.crn_endpoints.proofs.color_sums.Goals as goal
-use Rattle.crn_endpoints.proofs.color_sums.Invariants.{State}
 
 pub loop-i-init : goal.loop-i-init
 loop-i-init c = record { holds = c.requires.holds; small = c.requires.small; sums = λ t d b. sums_none _ _ _ _ b }
@@ -30,7 +24,7 @@ returns-in_default c =
     let e = c.in_default.is in (
       λ t d b.
           reaches-refused (sum-failed (c.loop-i.invariant.sums t d b) (color-sum t c.loop-i.i c.six_bits-six.ensures c.loop-i-test.true)
-              (takes_at c.ready-near.ensures.1 (c.draw_either-t.ensures _ _ d.0 d.1)) e)
+          (takes_at c.ready-near.ensures.1 (c.draw_either-t.ensures _ _ d.0 d.1)) e)
           (c.refusal.ensures ∙ ap refusal_of e)
           c.place.ensures,
       c.loop-i.invariant.small,
@@ -48,6 +42,7 @@ loop-i-preserved c =
     }
 
 pub returns : goal.returns
-returns c =
-    (λ t d b. reaches_to (sums_done (c.loop-i.invariant.sums t d b) (color-ended t c.loop-i.i (omega arith))) c.loop-i.invariant.holds,
-        c.loop-i.invariant.small)
+returns c = (
+  λ t d b. reaches_to (sums_done (c.loop-i.invariant.sums t d b) (color-ended t c.loop-i.i (omega arith))) c.loop-i.invariant.holds,
+  c.loop-i.invariant.small,
+)

@@ -1,16 +1,12 @@
 -- A symbol is added to each of the six sums. The invariant: what is left of them, run from here, ends as all of them do.
-use Rattle.std.proofs.Common.{ℕ, ◌-◌, List, ap, ◌∙◌, arith, rules}
+use Rattle.std.proofs.Common.{ℕ, ◌-◌, List}
 use Rattle.crn_format.specs.Reading.{run, from_bits, spot}
 use Rattle.crn_format.specs.Palettes.{summed, color_sums}
 use Rattle.crn_symbol_codec.specs.Cursors.{place, Holds}
 use Rattle.crn_symbol_codec.specs.Decoders.{Decodes}
 use Rattle.crn_symbol_codec.specs.declared.Cursor.{Cursor}
-use Rattle.crn_symbol_codec.proofs.Taking.{takes_at}
-use Rattle.crn_symbol_codec.proofs.Serving.{taken-holds}
-use Rattle.crn_symbol_codec.specs.Taking.{refusal_of}
 use Rattle.crn_endpoints.specs.Endpoints.{Small}
-use Rattle.crn_palettes.proofs.Leaving.{reaches_to, reaches-refused}
-use Rattle.crn_endpoints.proofs.Summing.{Summed, sums_none, sum_more, sum-failed, sums_done, color-sum, color-ended, small-more}
+use Rattle.crn_endpoints.proofs.Summing.{Summed}
 use Rattle.crn_endpoints.proofs.color_sums.Given as goal
 
 -- at the cursor `at`, after i of the sums that are read from c on

@@ -1,5 +1,5 @@
 -- The word of a colour endpoint.
-use Rattle.std.proofs.Common.{ℕ, ◌<◌, List, get_or, arith, rules}
+use Rattle.std.proofs.Common.{ℕ, ◌<◌, List, get_or, arith}
 use Rattle.crn_format.specs.Palettes.{color_word}
 use Rattle.crn_endpoints.specs.Endpoints.{Small}
 use Rattle.crn_endpoints.proofs.color_word.Goals as goal
@@ -22,28 +22,70 @@ pub overflow_add-result-2 : goal.overflow_add-result-2
 overflow_add-result-2 c = omega (arith, below c.args.v.now c.requires, c.wide.ensures.0, c.wide-2.ensures.0, c.wide-3.ensures.0)
 
 pub overflow_mul-result-3 : goal.overflow_mul-result-3
-overflow_mul-result-3 c = omega (arith, below c.args.v.now c.requires, c.wide.ensures.0, c.wide-2.ensures.0, c.wide-3.ensures.0,
-    c.wide-4.ensures.0)
+overflow_mul-result-3 c = omega (
+  arith,
+  below c.args.v.now c.requires,
+  c.wide.ensures.0,
+  c.wide-2.ensures.0,
+  c.wide-3.ensures.0,
+  c.wide-4.ensures.0,
+)
 
 pub overflow_add-result-3 : goal.overflow_add-result-3
-overflow_add-result-3 c = omega (arith, below c.args.v.now c.requires, c.wide.ensures.0, c.wide-2.ensures.0, c.wide-3.ensures.0,
-    c.wide-4.ensures.0)
+overflow_add-result-3 c = omega (
+  arith,
+  below c.args.v.now c.requires,
+  c.wide.ensures.0,
+  c.wide-2.ensures.0,
+  c.wide-3.ensures.0,
+  c.wide-4.ensures.0,
+)
 
 pub overflow_mul-result-4 : goal.overflow_mul-result-4
-overflow_mul-result-4 c = omega (arith, below c.args.v.now c.requires, c.wide.ensures.0, c.wide-2.ensures.0, c.wide-3.ensures.0,
-    c.wide-4.ensures.0, c.wide-5.ensures.0)
+overflow_mul-result-4 c = omega (
+  arith,
+  below c.args.v.now c.requires,
+  c.wide.ensures.0,
+  c.wide-2.ensures.0,
+  c.wide-3.ensures.0,
+  c.wide-4.ensures.0,
+  c.wide-5.ensures.0,
+)
 
 pub overflow_add-result-4 : goal.overflow_add-result-4
-overflow_add-result-4 c = omega (arith, below c.args.v.now c.requires, c.wide.ensures.0, c.wide-2.ensures.0, c.wide-3.ensures.0,
-    c.wide-4.ensures.0, c.wide-5.ensures.0)
+overflow_add-result-4 c = omega (
+  arith,
+  below c.args.v.now c.requires,
+  c.wide.ensures.0,
+  c.wide-2.ensures.0,
+  c.wide-3.ensures.0,
+  c.wide-4.ensures.0,
+  c.wide-5.ensures.0,
+)
 
 pub overflow_mul-result-5 : goal.overflow_mul-result-5
-overflow_mul-result-5 c = omega (arith, below c.args.v.now c.requires, c.wide.ensures.0, c.wide-2.ensures.0, c.wide-3.ensures.0,
-    c.wide-4.ensures.0, c.wide-5.ensures.0, c.wide-6.ensures.0)
+overflow_mul-result-5 c = omega (
+  arith,
+  below c.args.v.now c.requires,
+  c.wide.ensures.0,
+  c.wide-2.ensures.0,
+  c.wide-3.ensures.0,
+  c.wide-4.ensures.0,
+  c.wide-5.ensures.0,
+  c.wide-6.ensures.0,
+)
 
 pub overflow_add-result-5 : goal.overflow_add-result-5
-overflow_add-result-5 c = omega (arith, below c.args.v.now c.requires, c.wide.ensures.0, c.wide-2.ensures.0, c.wide-3.ensures.0,
-    c.wide-4.ensures.0, c.wide-5.ensures.0, c.wide-6.ensures.0)
+overflow_add-result-5 c = omega (
+  arith,
+  below c.args.v.now c.requires,
+  c.wide.ensures.0,
+  c.wide-2.ensures.0,
+  c.wide-3.ensures.0,
+  c.wide-4.ensures.0,
+  c.wide-5.ensures.0,
+  c.wide-6.ensures.0,
+)
 
 pub returns : goal.returns
 unfolding color_word

@@ -1,10 +1,9 @@
 -- The entries of a colour endpoint palette. The invariant: those before i are in the buffer, and what is left of them ends as all of them do.
-use Rattle.std.proofs.Common.{ℕ, ◌-◌, List, refl, arith, rules}
+use Rattle.std.proofs.Common.{ℕ, ◌-◌, List}
 use Rattle.crn_format.specs.Palettes.{summed, color_sums, color_word}
 use Rattle.crn_symbol_codec.specs.Decoders.{Decodes}
 use Rattle.crn_endpoints.specs.Endpoints.{Small}
-use Rattle.crn_endpoints.proofs.Summing.{small-zeros}
-use Rattle.crn_palettes.proofs.Entering.{Filling, filling_none, filling_more, filling_refused, filling_done}
+use Rattle.crn_palettes.proofs.Entering.{Filling}
 use Rattle.crn_endpoints.proofs.color_words.Given as goal
 
 abbrev pub invariant-loop-i : goal.invariant-loop-i

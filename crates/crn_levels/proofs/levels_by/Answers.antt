@@ -1,14 +1,12 @@
-use Prim.Native.Nat.{◌+◌, ◌*◌, ◌-◌, ◌≤◌}
+use Prim.Native.Nat.{◌+◌, ◌-◌, ◌≤◌}
 use mathlib.Core.Path.{◌≡◌, refl, sym, ap, ◌∙◌}
 use native.Mathlib.Omega.{arith}
 use lib.ListN.{length, length-drop}
-use borrow.Author.Rules.{rules}
 use borrow.Rule.Slice.PartMut.{same_len_mid}
-use Rattle.crn_format.specs.declared.Tables.{Tables}
 use Rattle.crn_formats.specs.Lent.{lent_of}
-use Rattle.crn_drawing.specs.Levels.{record_with, Made}
+use Rattle.crn_drawing.specs.Levels.{record_with}
 use Rattle.crn_drawing.specs.declared.Unpacked.{Unpacked}
-use Rattle.crn_levels.specs.Several.{Far, begun, several_from}
+use Rattle.crn_levels.specs.Several.{Far, several_from}
 use Rattle.crn_levels.specs.Answers.{stopped_by}
 use Rattle.crn_sizes.proofs.Counts.{most_cutouts}
 use Rattle.crn_levels.proofs.Steps.{far, at_first, moved, rest-whole, put_whole, went, on, off, from_start, all-through}

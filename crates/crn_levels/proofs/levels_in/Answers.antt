@@ -1,11 +1,9 @@
 -- The decoder tables are made in the lent arrays, and the levels drawn by them.
 use mathlib.Core.Path.{refl}
-use Rattle.crn_format.specs.declared.Record.{Record}
 use Rattle.crn_formats.specs.Records.{record_by}
 use Rattle.crn_decoders.proofs.Made.{able-kept}
 use Rattle.crn_drawing.specs.Levels.{Made}
 use Rattle.crn_drawing.proofs.ByRecord.{ready_by}
-use borrow.Author.Rules.{rules}
 use Rattle.crn_levels.proofs.levels_in.Goals as goal
 
 pub levels_by-requires : goal.levels_by-requires

@@ -1,5 +1,4 @@
 -- The answer, by which of the two the level was.
-use borrow.Author.Rules.{rules}
 use Rattle.crn_levels.proofs.stopped.Goals as goal
 
 pub returns-in-Blocks : goal.returns-in-Blocks

@@ -2,10 +2,8 @@
 use mathlib.Core.Path.{◌≡◌, sym, ◌∙◌}
 use mathlib.Core.Bool.{true}
 use native.Mathlib.Omega.{arith}
-use borrow.Author.Tests.{not-true, not-false}
 use Rattle.crn_format.specs.Header.{within_limits}
 use Rattle.crn_format.specs.Unpacking.{tables_hold}
-use Rattle.crn_format.specs.declared.Record.{Record}
 use Rattle.crn_formats.specs.Records.{record_by}
 use Rattle.crn_decoders.specs.Tables.{Long, AllFair}
 use Rattle.crn_decoders.proofs.Made.{all_fair, at_most}

@@ -1,12 +1,11 @@
 use Prim.Native.Nat.{◌-◌}
-use mathlib.Core.Bool.{Bool, true}
+use mathlib.Core.Bool.{true}
 use native.Mathlib.Omega.{arith}
-use borrow.Author.Rules.{rules}
 use lib.ListN.{get_or, length-set}
 use Rattle.crn_chunks.specs.Reads.{inside_of}
 use Rattle.crn_chunks.proofs.Picking.{reach-at}
 use Rattle.crn_quick.proofs.Stepping.{when_steps}
-use Rattle.crn_quick.proofs.Joining.{QuickPicking, picks_none, picks_now, picks_more, picks_done}
+use Rattle.crn_quick.proofs.Joining.{picks_none, picks_now, picks_more, picks_done}
 use Rattle.crn_quick.proofs.pair_positions.Goals as goal
 
 pub loop-k-init : goal.loop-k-init

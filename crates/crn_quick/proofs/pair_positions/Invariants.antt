@@ -1,13 +1,7 @@
 -- The selector indices of two planes at the positions. The invariant: what is left of them, read slowly from here, ends as all of them do.
 use Prim.Native.Nat.{◌-◌}
-use mathlib.Core.Bool.{Bool, true}
-use native.Mathlib.Omega.{arith}
-use borrow.Author.Rules.{rules}
-use lib.ListN.{get_or, length-set}
-use Rattle.crn_chunks.specs.Reads.{inside_of}
-use Rattle.crn_chunks.proofs.Picking.{reach-at}
-use Rattle.crn_quick.proofs.Stepping.{when_steps}
-use Rattle.crn_quick.proofs.Joining.{QuickPicking, picks_none, picks_now, picks_more, picks_done}
+use mathlib.Core.Bool.{Bool}
+use Rattle.crn_quick.proofs.Joining.{QuickPicking}
 use Rattle.crn_quick.proofs.pair_positions.Given as goal
 
 abbrev pub invariant-loop-k : goal.invariant-loop-k

@@ -3,7 +3,6 @@ use Prim.Native.Nat.{ℕ, ◌-◌}
 use mathlib.Core.Bool.{true}
 use mathlib.Core.Path.{ap}
 use native.Mathlib.Omega.{arith}
-use borrow.Author.Rules.{rules}
 use Rattle.crn_quick.specs.Quick.{each}
 use Rattle.crn_quick.proofs.Stepping.{when_steps}
 use Rattle.crn_quick.proofs.Joining.{both_read}

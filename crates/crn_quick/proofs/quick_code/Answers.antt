@@ -1,7 +1,6 @@
 -- The next encoding by the quick way.
 use mathlib.Core.Path.{sym}
 use native.Mathlib.Omega.{arith}
-use borrow.Author.Rules.{rules}
 use Rattle.crn_chunks.specs.Meaning.{source, spending}
 use Rattle.crn_chunks.proofs.Encoding.{pending-two, pending-one}
 use Rattle.crn_quick.proofs.Stepping.{when_step, found-code}

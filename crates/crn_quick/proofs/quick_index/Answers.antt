@@ -1,6 +1,5 @@
 -- An index by the quick way.
 use native.Mathlib.Omega.{arith}
-use borrow.Author.Rules.{rules}
 use Rattle.crn_quick.proofs.Stepping.{when_step, found-small, found-index}
 use Rattle.crn_quick.proofs.quick_index.Goals as goal
 

@@ -1,5 +1,4 @@
 -- The selector indices of two planes at a position.
-use borrow.Author.Rules.{rules}
 use Rattle.crn_quick.proofs.Stepping.{when_step}
 use Rattle.crn_quick.proofs.Joining.{stepped-holds, picked-two}
 use Rattle.crn_quick.proofs.quick_pair.Goals as goal

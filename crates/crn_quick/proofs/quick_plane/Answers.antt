@@ -1,9 +1,8 @@
 use Prim.Native.Nat.{◌-◌}
 use mathlib.Core.Bool.{true}
 use native.Mathlib.Omega.{arith}
-use borrow.Author.Rules.{rules}
 use Rattle.crn_quick.proofs.Stepping.{when_step}
-use Rattle.crn_quick.proofs.Joining.{QuickTiling, quick_none, quick_now, quick_more, quick_done}
+use Rattle.crn_quick.proofs.Joining.{quick_none, quick_now, quick_more, quick_done}
 use Rattle.crn_quick.proofs.quick_plane.Goals as goal
 
 pub loop-k-init : goal.loop-k-init

@@ -1,10 +1,6 @@
 -- The endpoint indices of a plane's tiles by the quick way. The invariant: what is left of them, read slowly from here, ends as all of them do.
 use Prim.Native.Nat.{◌-◌}
-use mathlib.Core.Bool.{true}
-use native.Mathlib.Omega.{arith}
-use borrow.Author.Rules.{rules}
-use Rattle.crn_quick.proofs.Stepping.{when_step}
-use Rattle.crn_quick.proofs.Joining.{QuickTiling, quick_none, quick_now, quick_more, quick_done}
+use Rattle.crn_quick.proofs.Joining.{QuickTiling}
 use Rattle.crn_quick.proofs.quick_plane.Given as goal
 
 abbrev pub invariant-loop-k : goal.invariant-loop-k

@@ -2,7 +2,6 @@
 use mathlib.Core.Bool.{true}
 use mathlib.Core.Path.{refl}
 use native.Mathlib.Omega.{arith}
-use borrow.Author.Rules.{rules}
 use Rattle.crn_chunks.proofs.Chunking.{encoded-holds, reads-chunk}
 use Rattle.crn_quick.proofs.Stepping.{when_code, when_quick}
 use Rattle.crn_quick.proofs.quick_read.Goals as goal

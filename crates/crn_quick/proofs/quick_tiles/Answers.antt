@@ -1,6 +1,5 @@
 -- The endpoint indices of the tiles of each plane by the quick way.
 use native.Mathlib.Omega.{arith}
-use borrow.Author.Rules.{rules}
 use Rattle.crn_quick.proofs.Stepping.{when_step}
 use Rattle.crn_quick.proofs.Joining.{tiled-one, tiled-two}
 use Rattle.crn_quick.proofs.quick_tiles.Goals as goal

@@ -1,5 +1,4 @@
 -- A chunk, by the quick way or, where that is lost, by the slow.
-use borrow.Author.Rules.{rules}
 use Rattle.crn_quick.proofs.Stepping.{when_chunk}
 use Rattle.crn_quick.proofs.read_chunk.Goals as goal
 

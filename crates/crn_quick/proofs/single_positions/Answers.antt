@@ -1,6 +1,5 @@
 -- The selector indices of one plane at the positions.
 use native.Mathlib.Omega.{arith}
-use borrow.Author.Rules.{rules}
 use mathlib.Core.Path.{refl}
 use lib.ListN.{length-set}
 use Rattle.crn_quick.proofs.Stepping.{when_step}

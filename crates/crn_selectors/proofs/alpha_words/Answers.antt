@@ -1,19 +1,15 @@
-use Prim.Native.Nat.{ℕ, ◌*◌, ◌-◌, ◌<◌}
+use Prim.Native.Nat.{ℕ, ◌-◌, ◌<◌}
 use mathlib.Core.Bool.{true}
-use mathlib.Core.List.{List}
-use mathlib.Core.Path.{◌≡◌, sym, ap, ◌∙◌}
+use mathlib.Core.Path.{sym, ap, ◌∙◌}
 use native.Mathlib.Omega.{arith}
-use Rattle.crn_format.specs.Palettes.{changed, three_words, alpha_selector_words}
-use Rattle.crn_symbol_codec.specs.Decoders.{Decodes}
+use Rattle.crn_format.specs.Palettes.{three_words, alpha_selector_words}
 use Rattle.crn_palettes.specs.Reaching.{cursor_at, ended_at}
 use Rattle.crn_palettes.specs.declared.reading.Reached.TheVariants.{Refused}
 use Rattle.crn_palettes.proofs.Leaving.{ended_some}
-use Rattle.crn_palettes.proofs.Entering.{Filling, filling_none, filling_more, filling_refused, filling_done}
-use Rattle.crn_selectors.specs.Selectors.{values_of, Pairs}
+use Rattle.crn_palettes.proofs.Entering.{filling_none, filling_more, filling_refused, filling_done}
+use Rattle.crn_selectors.specs.Selectors.{values_of}
 use Rattle.crn_selectors.proofs.Pairing.{pairs-zero}
-use borrow.Author.Rules.{rules}
 use Rattle.crn_selectors.proofs.alpha_words.Goals as goal
-use Rattle.crn_selectors.proofs.alpha_words.Invariants.{State}
 
 pub delta_table-deltas-requires : goal.delta_table-deltas-requires
 delta_table-deltas-requires c = c.alpha_delta_pairs-kept.ensures
@@ -22,8 +18,14 @@ pub loop-i-init : goal.loop-i-init
 loop-i-init c = record { filling = filling_none _ _ _ _ _ _ _ _ c.requires.holds; eight = pairs-zero true; words = omega arith }
 
 pub next_word-w-requires : goal.next_word-w-requires
-next_word-w-requires c = record { holds = c.loop-i.invariant.filling.holds; some_code = c.requires.some_code; delta_table =
-    c.delta_table-deltas.ensures; word_table = c.word_table-words.ensures; pairs = c.loop-i.invariant.eight }
+next_word-w-requires c = record {
+  holds = c.loop-i.invariant.filling.holds;
+  some_code = c.requires.some_code;
+  delta_table =
+      c.delta_table-deltas.ensures;
+  word_table = c.word_table-words.ensures;
+  pairs = c.loop-i.invariant.eight;
+}
 
 pub place-requires : goal.place-requires
 place-requires c = (c.next_word-w.ensures.holds, c.requires.seg_long)
@@ -36,16 +38,30 @@ returns-then-w-ne0 c =
     (ended_some _ _ some ∙ ap (Refused c.next_word-w.result.refusal) (sym c.place.ensures)) c.clear16.ensures
 
 pub put_three-requires : goal.put_three-requires
-put_three-requires c = (omega (arith, c.loop-i.invariant.filling.written.long, c.loop-i.invariant.words, c.loop-i-test.true,
-    c.requires.room), c.next_word-w.ensures.small c.if-w-ne0.false)
+put_three-requires c = (
+  omega (
+    arith,
+    c.loop-i.invariant.filling.written.long,
+    c.loop-i.invariant.words,
+    c.loop-i-test.true,
+    c.requires.room,
+  ),
+  c.next_word-w.ensures.small c.if-w-ne0.false,
+)
 
 pub overflow_add-i : goal.overflow_add-i
 overflow_add-i c = omega (arith, c.loop-i-test.true, c.ranges.count)
 
 pub overflow_add-k : goal.overflow_add-k
 overflow_add-k c =
-    omega (arith, c.loop-i.invariant.words, c.loop-i.invariant.filling.written.long, c.loop-i-test.true, c.requires.room,
-        c.well_formed.1.1.1.1.1.0.0)
+    omega (
+      arith,
+      c.loop-i.invariant.words,
+      c.loop-i.invariant.filling.written.long,
+      c.loop-i-test.true,
+      c.requires.room,
+      c.well_formed.1.1.1.1.1.0.0,
+    )
 
 pub loop-i-preserved : goal.loop-i-preserved
 unfolding alpha_selector_words
@@ -54,9 +70,9 @@ loop-i-preserved c =
     record {
       filling = filling_more c.loop-i.invariant.filling c.loop-i-test.true c.next_word-w.ensures.reads c.requires.some_code.decodes
           (ap (λ (n : ℕ). ended_at n (cursor_at c.next_word-w.result.bits c.next_word-w.result.have c.next_word-w.result.next)) z)
-              (ap three_words (sym (c.next_word-w.ensures.same z)))
-              (omega (arith, c.loop-i.invariant.filling.written.long, c.loop-i.invariant.words, c.loop-i-test.true, c.requires.room))
-              c.put_three.ensures;
+          (ap three_words (sym (c.next_word-w.ensures.same z)))
+          (omega (arith, c.loop-i.invariant.filling.written.long, c.loop-i.invariant.words, c.loop-i-test.true, c.requires.room))
+          c.put_three.ensures;
       eight = c.next_word-w.ensures.pairs;
       words = omega (arith, c.loop-i.invariant.words);
     }

@@ -1,19 +1,14 @@
 -- The entries of an alpha selector palette, three words each. The invariant: those before i are in the buffer, as its first k words, and what is left of them ends as all of
 -- them do.
-use Prim.Native.Nat.{ℕ, ◌*◌, ◌-◌, ◌<◌}
+use Prim.Native.Nat.{ℕ, ◌*◌, ◌-◌}
 use mathlib.Core.Bool.{true}
 use mathlib.Core.List.{List}
-use mathlib.Core.Path.{◌≡◌, sym, ap, ◌∙◌}
-use native.Mathlib.Omega.{arith}
-use Rattle.crn_format.specs.Palettes.{changed, three_words, alpha_selector_words}
+use mathlib.Core.Path.{◌≡◌}
+use Rattle.crn_format.specs.Palettes.{changed, alpha_selector_words}
 use Rattle.crn_symbol_codec.specs.Decoders.{Decodes}
-use Rattle.crn_palettes.specs.Reaching.{cursor_at, ended_at}
-use Rattle.crn_palettes.specs.declared.reading.Reached.TheVariants.{Refused}
-use Rattle.crn_palettes.proofs.Leaving.{ended_some}
-use Rattle.crn_palettes.proofs.Entering.{Filling, filling_none, filling_more, filling_refused, filling_done}
+use Rattle.crn_palettes.specs.Reaching.{cursor_at}
+use Rattle.crn_palettes.proofs.Entering.{Filling}
 use Rattle.crn_selectors.specs.Selectors.{values_of, Pairs}
-use Rattle.crn_selectors.proofs.Pairing.{pairs-zero}
-use borrow.Author.Rules.{rules}
 use Rattle.crn_selectors.proofs.alpha_words.Given as goal
 
 pub record State (lookup sorted seg : List ℕ) (count : ℕ) (before first : List ℕ) (bits₀ have₀ next₀ i k : ℕ) (out pairs : List ℕ)

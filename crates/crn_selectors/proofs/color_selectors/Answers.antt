@@ -14,8 +14,16 @@ slice_bounds-build_decoder-end c = sym (table-codes c.receive_lengths.ensures c.
 pub build_decoder-requires : goal.build_decoder-requires
 build_decoder-requires c =
     let codes = table-codes c.receive_lengths.ensures c.in-Table.is in
-    record { codes = codes; tables_fit = (search rules, search rules, search rules, omega
-        (arith, (few_fit _ _ _ c.few.ensures c.if-few.true).0, length-replicate {A = ℕ} 256 0)) }
+    record {
+      codes = codes;
+      tables_fit = (
+        search rules,
+        search rules,
+        search rules,
+        omega
+            (arith, (few_fit _ _ _ c.few.ensures c.if-few.true).0, length-replicate {A = ℕ} 256 0),
+      );
+    }
 
 pub color_words-requires : goal.color_words-requires
 color_words-requires c =
@@ -35,8 +43,16 @@ slice_bounds-build_decoder-end-in-Table c = sym (table-codes c.receive_lengths.e
 pub build_decoder-requires-in-Table : goal.build_decoder-requires-in-Table
 build_decoder-requires-in-Table c =
     let codes = table-codes c.receive_lengths.ensures c.in-Table.is in
-    record { codes = codes; tables_fit = (search rules, search rules, search rules, omega
-        (arith, codes.within, codes.long, length-replicate {A = ℕ} 8192 0)) }
+    record {
+      codes = codes;
+      tables_fit = (
+        search rules,
+        search rules,
+        search rules,
+        omega
+            (arith, codes.within, codes.long, length-replicate {A = ℕ} 8192 0),
+      );
+    }
 
 pub color_words-requires-in-Table : goal.color_words-requires-in-Table
 color_words-requires-in-Table c =

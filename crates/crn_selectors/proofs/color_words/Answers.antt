@@ -1,19 +1,16 @@
 use Prim.Native.Nat.{ℕ, ◌-◌, ◌<◌}
 use mathlib.Core.Bool.{false}
-use mathlib.Core.List.{List, [], ◌∷◌}
-use mathlib.Core.Path.{◌≡◌, refl, sym, ap, ◌∙◌}
+use mathlib.Core.List.{[], ◌∷◌}
+use mathlib.Core.Path.{refl, sym, ap, ◌∙◌}
 use native.Mathlib.Omega.{arith}
-use Rattle.crn_format.specs.Palettes.{changed, color_selector_words}
-use Rattle.crn_symbol_codec.specs.Decoders.{Decodes}
+use Rattle.crn_format.specs.Palettes.{color_selector_words}
 use Rattle.crn_palettes.specs.Reaching.{cursor_at, ended_at}
 use Rattle.crn_palettes.specs.declared.reading.Reached.TheVariants.{Refused}
 use Rattle.crn_palettes.proofs.Leaving.{ended_some}
-use Rattle.crn_palettes.proofs.Entering.{Filling, filling_none, filling_more, filling_refused, filling_done}
-use Rattle.crn_selectors.specs.Selectors.{values_of, Pairs}
+use Rattle.crn_palettes.proofs.Entering.{filling_none, filling_more, filling_refused, filling_done}
+use Rattle.crn_selectors.specs.Selectors.{values_of}
 use Rattle.crn_selectors.proofs.Pairing.{pairs-zero}
-use borrow.Author.Rules.{rules}
 use Rattle.crn_selectors.proofs.color_words.Goals as goal
-use Rattle.crn_selectors.proofs.color_words.Invariants.{State}
 
 pub delta_table-deltas-requires : goal.delta_table-deltas-requires
 delta_table-deltas-requires c = tt
@@ -22,8 +19,14 @@ pub loop-i-init : goal.loop-i-init
 loop-i-init c = record { filling = filling_none _ _ _ _ _ _ _ _ c.requires.holds; eight = pairs-zero false; words = omega arith }
 
 pub next_word-w-requires : goal.next_word-w-requires
-next_word-w-requires c = record { holds = c.loop-i.invariant.filling.holds; some_code = c.requires.some_code; delta_table =
-    c.delta_table-deltas.ensures; word_table = c.word_table-words.ensures; pairs = c.loop-i.invariant.eight }
+next_word-w-requires c = record {
+  holds = c.loop-i.invariant.filling.holds;
+  some_code = c.requires.some_code;
+  delta_table =
+      c.delta_table-deltas.ensures;
+  word_table = c.word_table-words.ensures;
+  pairs = c.loop-i.invariant.eight;
+}
 
 pub place-requires : goal.place-requires
 place-requires c = (c.next_word-w.ensures.holds, c.requires.seg_long)
@@ -39,16 +42,31 @@ pub overflow_cast-out : goal.overflow_cast-out
 overflow_cast-out c = omega (arith, c.next_word-w.ensures.small c.if-w-ne0.false)
 
 pub offset_bounds-out-i : goal.offset_bounds-out-i
-offset_bounds-out-i c = omega (arith, c.loop-i.invariant.filling.written.long, c.loop-i-test.true, c.requires.count_in,
-    c.well_formed.1.1.1.1.1.0.1)
+offset_bounds-out-i c = omega (
+  arith,
+  c.loop-i.invariant.filling.written.long,
+  c.loop-i-test.true,
+  c.requires.count_in,
+  c.well_formed.1.1.1.1.1.0.1,
+)
 
 pub bounds-out-i : goal.bounds-out-i
-bounds-out-i c = omega (arith, c.loop-i.invariant.filling.written.long, c.loop-i-test.true, c.requires.count_in,
-    c.well_formed.1.1.1.1.1.0.1)
+bounds-out-i c = omega (
+  arith,
+  c.loop-i.invariant.filling.written.long,
+  c.loop-i-test.true,
+  c.requires.count_in,
+  c.well_formed.1.1.1.1.1.0.1,
+)
 
 pub overflow_add-i : goal.overflow_add-i
-overflow_add-i c = omega (arith, c.loop-i.invariant.filling.written.long, c.loop-i-test.true, c.requires.count_in,
-    c.well_formed.1.1.1.1.1.0.1)
+overflow_add-i c = omega (
+  arith,
+  c.loop-i.invariant.filling.written.long,
+  c.loop-i-test.true,
+  c.requires.count_in,
+  c.well_formed.1.1.1.1.1.0.1,
+)
 
 pub loop-i-preserved : goal.loop-i-preserved
 unfolding color_selector_words
@@ -57,8 +75,8 @@ loop-i-preserved c =
     record {
       filling = filling_more c.loop-i.invariant.filling c.loop-i-test.true c.next_word-w.ensures.reads c.requires.some_code.decodes
           (ap (λ (n : ℕ). ended_at n (cursor_at c.next_word-w.result.bits c.next_word-w.result.have c.next_word-w.result.next)) z)
-              (ap (λ (p : ℕ). p ∷ []) (sym (c.next_word-w.ensures.same z)))
-              (omega (arith, c.loop-i.invariant.filling.written.long, c.loop-i-test.true, c.requires.count_in)) refl;
+          (ap (λ (p : ℕ). p ∷ []) (sym (c.next_word-w.ensures.same z)))
+          (omega (arith, c.loop-i.invariant.filling.written.long, c.loop-i-test.true, c.requires.count_in)) refl;
       eight = c.next_word-w.ensures.pairs;
       words = refl;
     }

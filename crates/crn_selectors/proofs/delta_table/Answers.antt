@@ -1,10 +1,9 @@
 use Prim.Native.Nat.{ℕ, ◌-◌, ◌<◌}
-use mathlib.Core.Path.{◌≡◌, ◌∙◌}
+use mathlib.Core.Path.{◌∙◌}
 use native.Mathlib.Omega.{arith}
-use lib.ListN.{length, get_or, length-replicate, length-set}
-use Rattle.crn_selectors.specs.Selectors.{pairs_of, PairDelta}
+use lib.ListN.{length, length-replicate, length-set}
+use Rattle.crn_selectors.specs.Selectors.{PairDelta}
 use Rattle.crn_selectors.proofs.Pairing.{pairs-few, table_more}
-use borrow.Author.Rules.{rules}
 use Rattle.crn_selectors.proofs.delta_table.Goals as goal
 
 pub loop-s-init : goal.loop-s-init
@@ -25,10 +24,17 @@ loop-s-smaller c = omega (arith, c.loop-s-test.true, c.pairs.ensures)
 pub loop-s-preserved : goal.loop-s-preserved
 loop-s-preserved c =
     let alpha = c.args.alpha in
-    let in_table : c.loop-s.s < length c.loop-s.out = omega (arith, c.loop-s-test.true, c.pairs.ensures, pairs-few alpha,
-        c.loop-s.invariant.0) in
-    (length-set c.loop-s.out c.loop-s.s c.pair_delta.result ∙ c.loop-s.invariant.0, table_more (λ k v. PairDelta alpha k v) c.loop-s.out
-        c.loop-s.s _ in_table c.loop-s.invariant.1 c.pair_delta.ensures)
+    let in_table : c.loop-s.s < length c.loop-s.out = omega (
+      arith,
+      c.loop-s-test.true,
+      c.pairs.ensures,
+      pairs-few alpha,
+      c.loop-s.invariant.0,
+    ) in (
+      length-set c.loop-s.out c.loop-s.s c.pair_delta.result ∙ c.loop-s.invariant.0,
+      table_more (λ k v. PairDelta alpha k v) c.loop-s.out
+          c.loop-s.s _ in_table c.loop-s.invariant.1 c.pair_delta.ensures,
+    )
 
 pub returns : goal.returns
 returns c = λ k l. c.loop-s.invariant.1 k (omega (arith, c.loop-s-test.false, c.pairs.ensures))

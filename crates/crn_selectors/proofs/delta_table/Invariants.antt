@@ -1,11 +1,8 @@
 -- The delta of each symbol. The invariant: those before s are there.
 use Prim.Native.Nat.{ℕ, ◌-◌, ◌<◌}
-use mathlib.Core.Path.{◌≡◌, ◌∙◌}
-use native.Mathlib.Omega.{arith}
-use lib.ListN.{length, get_or, length-replicate, length-set}
+use mathlib.Core.Path.{◌≡◌}
+use lib.ListN.{length, get_or}
 use Rattle.crn_selectors.specs.Selectors.{pairs_of, PairDelta}
-use Rattle.crn_selectors.proofs.Pairing.{pairs-few, table_more}
-use borrow.Author.Rules.{rules}
 use Rattle.crn_selectors.proofs.delta_table.Given as goal
 
 abbrev pub invariant-loop-s : goal.invariant-loop-s

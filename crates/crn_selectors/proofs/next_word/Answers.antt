@@ -1,25 +1,16 @@
-use Prim.Native.Nat.{ℕ, ◌*◌, ◌-◌}
-use mathlib.Core.Bool.{Bool}
-use mathlib.Core.List.{List}
+use Prim.Native.Nat.{◌-◌}
 use mathlib.Core.Path.{◌≡◌, refl, ap, ◌∙◌}
 use native.Mathlib.Omega.{arith}
-use Rattle.crn_format.specs.Reading.{run, from_bits, spot}
-use Rattle.crn_format.specs.Palettes.{changed}
-use Rattle.crn_symbol_codec.specs.Cursors.{place, Holds}
-use Rattle.crn_symbol_codec.specs.Decoders.{Decodes}
-use Rattle.crn_symbol_codec.specs.declared.Cursor.{Cursor}
+use Rattle.crn_symbol_codec.specs.Cursors.{place}
 use Rattle.crn_symbol_codec.proofs.Taking.{takes_at}
 use Rattle.crn_symbol_codec.proofs.Serving.{taken-holds, failed-some}
 use Rattle.crn_symbol_codec.specs.Taking.{refusal_of}
 use Rattle.crn_palettes.specs.Reaching.{cursor_at}
 use Rattle.crn_palettes.proofs.Leaving.{reaches_to, reaches-ended}
-use Rattle.crn_selectors.specs.Selectors.{top_of, bits_of, values_of, Pairs}
-use Rattle.crn_selectors.proofs.Changing.{Changed, pairs-none, pair-more, pair-failed, pair_bad, pairs_done}
-use Rattle.crn_selectors.proofs.Packing.{Packed, packed_none}
+use Rattle.crn_selectors.proofs.Changing.{pairs-none, pair-more, pair-failed, pair_bad, pairs_done}
+use Rattle.crn_selectors.proofs.Packing.{packed_none}
 use Rattle.crn_selectors.proofs.Pairing.{delta_halves, moved-halves, halves_small, few_bits, pairs-few, values_moved, pairs-moved, pair_fits, pair-packed}
-use borrow.Author.Rules.{rules}
 use Rattle.crn_selectors.proofs.next_word.Goals as goal
-use Rattle.crn_selectors.proofs.next_word.Invariants.{State}
 
 pub loop-j-init : goal.loop-j-init
 loop-j-init c =
@@ -29,8 +20,12 @@ pub filled-near-requires : goal.filled-near-requires
 filled-near-requires c = c.loop-j.invariant.holds
 
 pub draw_ready-t-requires : goal.draw_ready-t-requires
-draw_ready-t-requires c = record { holds = c.filled-near.ensures.holds; enough = c.filled-near.ensures.enough; usable =
-    c.requires.some_code.decodes.usable }
+draw_ready-t-requires c = record {
+  holds = c.filled-near.ensures.holds;
+  enough = c.filled-near.ensures.enough;
+  usable =
+      c.requires.some_code.decodes.usable;
+}
 
 pub returns-in_default : goal.returns-in_default
 returns-in_default c =
@@ -66,8 +61,11 @@ pub bounds-deltas-s : goal.bounds-deltas-s
 bounds-deltas-s c = omega (arith, c.if-pairs-s.false, c.pairs.ensures, pairs-few c.args.alpha)
 
 pub moved-p-requires : goal.moved-p-requires
-moved-p-requires c = record { halves = c.loop-j.invariant.eight.halves _; delta_halves = delta_halves
-    (c.requires.delta_table _ (rw c.pairs.ensures at c.if-pairs-s.false)) }
+moved-p-requires c = record {
+  halves = c.loop-j.invariant.eight.halves _;
+  delta_halves = delta_halves
+      (c.requires.delta_table _ (rw c.pairs.ensures at c.if-pairs-s.false));
+}
 
 pub bounds-words-p : goal.bounds-words-p
 bounds-words-p c = halves_small c.args.alpha (moved-halves c.moved-p.ensures)
@@ -77,13 +75,21 @@ overflow_shl-word c = omega (arith, c.loop-j.invariant.packs.near, c.loop-j.inva
 
 pub overflow_add-word : goal.overflow_add-word
 overflow_add-word c =
-    record { fits = pair_fits c.args.alpha c.loop-j.states c.loop-j.j _ c.loop-j.invariant.packs c.loop-j-test.true
-        (omega (arith, c.loop-j.invariant.eight.long)) (c.wide.ensures.0 ∙ c.requires.word_table _
-        (halves_small c.args.alpha (moved-halves c.moved-p.ensures))) }
+    record {
+      fits = pair_fits c.args.alpha c.loop-j.states c.loop-j.j _ c.loop-j.invariant.packs c.loop-j-test.true
+          (omega (arith, c.loop-j.invariant.eight.long)) (c.wide.ensures.0 ∙ c.requires.word_table _
+          (halves_small c.args.alpha (moved-halves c.moved-p.ensures)));
+    }
 
 pub overflow_add-shift : goal.overflow_add-shift
-overflow_add-shift c = omega (arith, c.loop-j.invariant.packs.near, c.loop-j.invariant.packs.within, c.pair_bits-width.ensures, few_bits
-    c.args.alpha)
+overflow_add-shift c = omega (
+  arith,
+  c.loop-j.invariant.packs.near,
+  c.loop-j.invariant.packs.within,
+  c.pair_bits-width.ensures,
+  few_bits
+      c.args.alpha,
+)
 
 pub loop-j-preserved : goal.loop-j-preserved
 loop-j-preserved c =

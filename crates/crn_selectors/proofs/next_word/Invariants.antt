@@ -2,33 +2,25 @@
 use Prim.Native.Nat.{ℕ, ◌*◌, ◌-◌}
 use mathlib.Core.Bool.{Bool}
 use mathlib.Core.List.{List}
-use mathlib.Core.Path.{◌≡◌, refl, ap, ◌∙◌}
-use native.Mathlib.Omega.{arith}
 use Rattle.crn_format.specs.Reading.{run, from_bits, spot}
 use Rattle.crn_format.specs.Palettes.{changed}
 use Rattle.crn_symbol_codec.specs.Cursors.{place, Holds}
 use Rattle.crn_symbol_codec.specs.Decoders.{Decodes}
 use Rattle.crn_symbol_codec.specs.declared.Cursor.{Cursor}
-use Rattle.crn_symbol_codec.proofs.Taking.{takes_at}
-use Rattle.crn_symbol_codec.proofs.Serving.{taken-holds, failed-some}
-use Rattle.crn_symbol_codec.specs.Taking.{refusal_of}
 use Rattle.crn_palettes.specs.Reaching.{cursor_at}
-use Rattle.crn_palettes.proofs.Leaving.{reaches_to, reaches-ended}
 use Rattle.crn_selectors.specs.Selectors.{top_of, bits_of, values_of, Pairs}
-use Rattle.crn_selectors.proofs.Changing.{Changed, pairs-none, pair-more, pair-failed, pair_bad, pairs_done}
-use Rattle.crn_selectors.proofs.Packing.{Packed, packed_none}
-use Rattle.crn_selectors.proofs.Pairing.{delta_halves, moved-halves, halves_small, few_bits, pairs-few, values_moved, pairs-moved, pair_fits, pair-packed}
-use borrow.Author.Rules.{rules}
+use Rattle.crn_selectors.proofs.Changing.{Changed}
+use Rattle.crn_selectors.proofs.Packing.{Packed}
 use Rattle.crn_selectors.proofs.next_word.Given as goal
 
 -- at the cursor `at`, after j of the pairs that are changed from c on
 pub record State (alpha : Bool) (lookup sorted seg : List ℕ) (c : Cursor) (before pairs : List ℕ) (at : Cursor) (word shift j : ℕ) : Type 0
-    where
-  pub holds : Holds seg at
-  pub eight : Pairs alpha pairs
-  pub packs : Packed (top_of alpha) (bits_of alpha) (values_of pairs) word (2 * j) shift
-  pub changes : (t : List ℕ) → Decodes t lookup sorted → (b : ℕ) → Changed seg (top_of alpha) t j (values_of pairs) at
-      (run (from_bits seg) (changed (top_of alpha) t 8 0 (values_of before)) (spot (place c) b))
+  where
+    pub holds : Holds seg at
+    pub eight : Pairs alpha pairs
+    pub packs : Packed (top_of alpha) (bits_of alpha) (values_of pairs) word (2 * j) shift
+    pub changes : (t : List ℕ) → Decodes t lookup sorted → (b : ℕ) → Changed seg (top_of alpha) t j (values_of pairs) at
+        (run (from_bits seg) (changed (top_of alpha) t 8 0 (values_of before)) (spot (place c) b))
 
 abbrev pub invariant-loop-j : goal.invariant-loop-j
 invariant-loop-j l = State l.alpha l.lookup l.sorted l.seg (cursor_at l.bits0 l.have0 l.next0) l.initial.states l.states

@@ -3,7 +3,6 @@ use Prim.Native.Nat.{ℕ, ◌%◌}
 use mathlib.Core.Path.{ap, ◌∙◌}
 use native.Mathlib.Omega.{arith}
 use Rattle.crn_selectors.proofs.Pairing.{low_half, high_half}
-use borrow.Author.Rules.{rules}
 use Rattle.crn_selectors.proofs.pair_delta.Goals as goal
 
 pub returns-then-alpha : goal.returns-then-alpha

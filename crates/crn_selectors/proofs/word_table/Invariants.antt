@@ -1,11 +1,8 @@
 -- Each pair as it is written. The invariant: those before p are there.
 use Prim.Native.Nat.{ℕ, ◌-◌, ◌<◌}
-use mathlib.Core.Path.{◌≡◌, ◌∙◌}
-use native.Mathlib.Omega.{arith}
-use lib.ListN.{length, get_or, length-replicate, length-set}
+use mathlib.Core.Path.{◌≡◌}
+use lib.ListN.{length, get_or}
 use Rattle.crn_selectors.specs.Selectors.{written_pair}
-use Rattle.crn_selectors.proofs.Pairing.{table_more}
-use borrow.Author.Rules.{rules}
 use Rattle.crn_selectors.proofs.word_table.Given as goal
 
 abbrev pub invariant-loop-p : goal.invariant-loop-p

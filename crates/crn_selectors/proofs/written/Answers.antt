@@ -1,7 +1,6 @@
 -- A value as a block writes it, by the top value of its kind.
 use mathlib.Core.Bool.{true, false}
 use Rattle.crn_selectors.proofs.Pairing.{written_small}
-use borrow.Author.Rules.{rules}
 use Rattle.crn_selectors.proofs.written.Goals as goal
 
 pub returns-then-alpha : goal.returns-then-alpha

@@ -1,11 +1,9 @@
 use Prim.Native.Nat.{ℕ, ◌+◌, ◌-◌, ◌≤◌}
 use mathlib.Core.Path.{◌≡◌, refl, ap, ◌∙◌}
 use native.Mathlib.Omega.{arith}
-use borrow.Author.Rules.{rules}
 use Rattle.crn_blocks.specs.Sheet.{row_start}
 use Rattle.crn_blocks.proofs.Rows.{row_first, face-next, face-last, face_later}
-use Rattle.crn_unpacker.specs.Going.{Given, given, Goes, none}
-use Rattle.crn_unpacker.specs.declared.Went.TheVariants.{On}
+use Rattle.crn_unpacker.specs.Going.{given, Goes, none}
 use Rattle.crn_unpacker.proofs.Steps.{start, carry, stop-early, respell, fit_kept, onward-first}
 use Rattle.crn_unpacker.proofs.paint.Goals as goal
 
@@ -28,8 +26,8 @@ returns-in_default c =
     let h : row_start g (c.loop-face.face + 1) 0 ≤ row_start g g.faces 0 = face_later g (omega (arith, c.loop-face-test.true)) in
     stop-early (omega (arith, h, face-last g)) c.in_default.is ((let it : Goes ((let a = c.args in
     given a.lookup.now a.sorted.now a.seg.now a.cends.now a.csels.now a.aends.now a.asels.now a.ps a.g)) 0
-        (row_start c.args.g (c.loop-face.face + 1) 0) none c.args.s c.args.dst.now c.face_rows-w.new.dst c.face_rows-w.result =
-        (let g = c.args.g in
+    (row_start c.args.g (c.loop-face.face + 1) 0) none c.args.s c.args.dst.now c.face_rows-w.new.dst c.face_rows-w.result =
+    (let g = c.args.g in
     let face = c.loop-face.face in
     carry c.requires.fit.room (omega arith) (face_later g (omega arith)) c.loop-face.invariant.1
     (respell refl (face-next g face) refl c.face_rows-w.ensures)) in it))
@@ -41,13 +39,16 @@ pub loop-face-smaller : goal.loop-face-smaller
 loop-face-smaller c = omega (arith, c.loop-face-test.true)
 
 pub loop-face-preserved : goal.loop-face-preserved
-loop-face-preserved c = (omega (arith, c.loop-face-test.true), respell refl refl c.in-On.is ((let it : Goes ((let a = c.args in
-    given a.lookup.now a.sorted.now a.seg.now a.cends.now a.csels.now a.aends.now a.asels.now a.ps a.g)) 0
-        (row_start c.args.g (c.loop-face.face + 1) 0) none c.args.s c.args.dst.now c.face_rows-w.new.dst c.face_rows-w.result =
-        (let g = c.args.g in
-    let face = c.loop-face.face in
-    carry c.requires.fit.room (omega arith) (face_later g (omega arith)) c.loop-face.invariant.1
-    (respell refl (face-next g face) refl c.face_rows-w.ensures)) in it)))
+loop-face-preserved c = (
+  omega (arith, c.loop-face-test.true),
+  respell refl refl c.in-On.is ((let it : Goes ((let a = c.args in
+      given a.lookup.now a.sorted.now a.seg.now a.cends.now a.csels.now a.aends.now a.asels.now a.ps a.g)) 0
+      (row_start c.args.g (c.loop-face.face + 1) 0) none c.args.s c.args.dst.now c.face_rows-w.new.dst c.face_rows-w.result =
+      (let g = c.args.g in
+      let face = c.loop-face.face in
+      carry c.requires.fit.room (omega arith) (face_later g (omega arith)) c.loop-face.invariant.1
+      (respell refl (face-next g face) refl c.face_rows-w.ensures)) in it)),
+)
 
 pub shape_of-dst : goal.shape_of-dst
 shape_of-dst c = c.loop-face.invariant.1.long

@@ -1,13 +1,8 @@
 -- The invariant: the faces before this one were gone over.
-use Prim.Native.Nat.{ℕ, ◌+◌, ◌-◌, ◌≤◌}
-use mathlib.Core.Path.{◌≡◌, refl, ap, ◌∙◌}
-use native.Mathlib.Omega.{arith}
-use borrow.Author.Rules.{rules}
+use Prim.Native.Nat.{◌-◌, ◌≤◌}
 use Rattle.crn_blocks.specs.Sheet.{row_start}
-use Rattle.crn_blocks.proofs.Rows.{row_first, face-next, face-last, face_later}
-use Rattle.crn_unpacker.specs.Going.{Given, given, Goes, none}
+use Rattle.crn_unpacker.specs.Going.{given, Goes}
 use Rattle.crn_unpacker.specs.declared.Went.TheVariants.{On}
-use Rattle.crn_unpacker.proofs.Steps.{start, carry, stop-early, respell, fit_kept, onward-first}
 use Rattle.crn_unpacker.proofs.paint.Given as goal
 
 abbrev pub invariant-loop-face : goal.invariant-loop-face

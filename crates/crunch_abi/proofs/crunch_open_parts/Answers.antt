@@ -1,5 +1,4 @@
 -- A file opened: what the callee ensures is what is asked.
-use borrow.Author.Rules.{rules}
 use Rattle.crunch_abi.proofs.crunch_open_parts.Goals as goal
 
 pub returns : goal.returns

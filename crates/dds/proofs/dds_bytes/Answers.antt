@@ -2,12 +2,10 @@
 use Prim.Native.Nat.{ℕ, ◌+◌, ◌*◌}
 use mathlib.Core.Path.{◌≡◌, sym, ap, ◌∙◌}
 use mathlib.Core.Bool.{true}
-use borrow.Author.Tests.{not-true, not-false}
 use Rattle.crn_format.specs.Header.{within_limits}
 use Rattle.picture.specs.Kinds.{goes_out}
 use Rattle.picture.proofs.Refusals.{needed_2, needed_16, needed_so}
 use Rattle.dds.specs.Header.{head_bytes, dds_of}
-use borrow.Author.Rules.{rules}
 use Rattle.dds.proofs.dds_bytes.Goals as goal
 
 pub returns-then-not-within_limits : goal.returns-then-not-within_limits

@@ -1,7 +1,6 @@
 -- The sum and the product are small.
 use native.Mathlib.Omega.{arith}
 use Rattle.picture.proofs.Bytes.{faces_small}
-use borrow.Author.Rules.{rules}
 use Rattle.dds.proofs.total_of.Goals as goal
 
 pub overflow_mul-result : goal.overflow_mul-result

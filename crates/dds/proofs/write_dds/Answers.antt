@@ -5,10 +5,8 @@ use mathlib.Core.Bool.{true}
 use native.Mathlib.Omega.{arith}
 use lib.ListN.{length, take, drop, length-append}
 use lib.Seq.{length-take-le}
-use borrow.Author.Tests.{not-true, not-false, ltb-true, ltb-false}
 use Rattle.crn_format.specs.Header.{within_limits}
 use Rattle.crn_format.specs.Unpacking.{tables_hold}
-use Rattle.crn_format.specs.declared.Record.{Record}
 use Rattle.crn_formats.specs.Records.{record_by}
 use Rattle.picture.specs.Kinds.{goes_out}
 use Rattle.picture.specs.Surfaces.{picture_of}
@@ -16,7 +14,6 @@ use Rattle.picture.proofs.Refusals.{no_2, no_6, no_16, no_12}
 use Rattle.picture_levels.proofs.Joining.{sets-front, written_so, stopped_so}
 use Rattle.dds.specs.Header.{head_bytes, dds_header, dds_of}
 use Rattle.dds.proofs.Fields.{header-long}
-use borrow.Author.Rules.{rules}
 use Rattle.dds.proofs.write_dds.Goals as goal
 
 pub returns-then-not-within_limits : goal.returns-then-not-within_limits

@@ -1,6 +1,6 @@
 -- `sum_of_draws` refuses lengths that make no code, and else is `total`.
 use Rattle.std.proofs.Common.{◌≤◌, true, false, length, sym, ◌∙◌, arith, rules, le-leb}
-use borrow.Author.Tests.{lt-leb, not-true, not-false}
+use borrow.Author.Tests.{lt-leb}
 use Rattle.crn_format.proofs.Kraft.{code_fits}
 use Rattle.draw_bench.proofs.sum_of_draws.Goals as goal
 
@@ -13,8 +13,11 @@ returns-then-not-is_code c =
     simp (le-leb _ _ h, sym c.is_code.ensures ∙ c.if-not-is_code.true)
 
 pub build-requires : goal.build-requires
-build-requires c = record { lengths_len_bound = (search rules, code_fits _ (sym c.is_code.ensures ∙ c.if-not-is_code.false)); most_nonzero =
-    search rules }
+build-requires c = record {
+  lengths_len_bound = (search rules, code_fits _ (sym c.is_code.ensures ∙ c.if-not-is_code.false));
+  most_nonzero =
+      search rules;
+}
 
 pub returns : goal.returns
 returns c =

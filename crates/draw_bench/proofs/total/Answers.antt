@@ -1,5 +1,5 @@
-use Rattle.std.proofs.Common.{◌-◌, ap, arith, rules}
-use Rattle.draw_bench.proofs.Tallying.{Tallied, begins, done, fails, more}
+use Rattle.std.proofs.Common.{◌-◌, arith}
+use Rattle.draw_bench.proofs.Tallying.{begins, done, fails, more}
 use Rattle.draw_bench.proofs.total.Goals as goal
 
 pub loop-k-init : goal.loop-k-init

@@ -1,6 +1,6 @@
 -- `total` is the tally of n draws. Invariant: what is left to be drawn from here is the whole.
-use Rattle.std.proofs.Common.{◌-◌, ap, arith, rules}
-use Rattle.draw_bench.proofs.Tallying.{Tallied, begins, done, fails, more}
+use Rattle.std.proofs.Common.{◌-◌}
+use Rattle.draw_bench.proofs.Tallying.{Tallied}
 use Rattle.draw_bench.proofs.total.Given as goal
 
 abbrev pub invariant-loop-k : goal.invariant-loop-k

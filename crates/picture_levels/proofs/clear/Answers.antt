@@ -1,8 +1,7 @@
 use Prim.Native.Nat.{◌-◌}
 use native.Mathlib.Omega.{arith}
-use lib.ListN.{length, length-set}
-use borrow.Author.Rules.{rules}
-use Rattle.crn_palettes.proofs.Zeroing.{Cleared, cleared-none, cleared_more, cleared-all}
+use lib.ListN.{length-set}
+use Rattle.crn_palettes.proofs.Zeroing.{cleared-none, cleared_more, cleared-all}
 use Rattle.picture_levels.proofs.clear.Goals as goal
 
 pub loop-i-init : goal.loop-i-init

@@ -1,9 +1,7 @@
 -- The bytes of a buffer are set to 0. The invariant: those before i are.
 use Prim.Native.Nat.{◌-◌}
-use native.Mathlib.Omega.{arith}
-use lib.ListN.{length, length-set}
-use borrow.Author.Rules.{rules}
-use Rattle.crn_palettes.proofs.Zeroing.{Cleared, cleared-none, cleared_more, cleared-all}
+use lib.ListN.{length}
+use Rattle.crn_palettes.proofs.Zeroing.{Cleared}
 use Rattle.picture_levels.proofs.clear.Given as goal
 
 abbrev pub invariant-loop-i : goal.invariant-loop-i

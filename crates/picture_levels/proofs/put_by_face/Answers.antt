@@ -1,30 +1,24 @@
-use Prim.Native.Nat.{ℕ, ◌+◌, ◌*◌, ◌-◌, ◌≤◌, ◌<◌}
+use Prim.Native.Nat.{ℕ, ◌+◌, ◌-◌, ◌≤◌, ◌<◌}
 use mathlib.Core.Path.{◌≡◌, refl, sym, ap, ◌∙◌}
-use mathlib.Core.List.{List}
 use native.Mathlib.Omega.{arith}
 use native.Mathlib.Nat.{sub-zero}
 use lib.ListN.{length}
-use borrow.Author.Rules.{rules}
 use borrow.Author.Tests.{lt-ltb}
 use borrow.Rule.Slice.PartMut.{put_mid, same_len_mid}
-use Rattle.crn_format.specs.Opening.{Palettes}
 use Rattle.crn_format.specs.declared.Header.{Header}
-use Rattle.crn_format.specs.declared.Tables.{Tables}
 use Rattle.crn_formats.specs.Lent.{lent_of}
 use Rattle.crn_formats.proofs.Limited.{limited}
-use Rattle.crn_decoders.specs.declared.decoders.Sizes.{Sizes}
-use Rattle.crn_drawing.specs.Levels.{record_with, Made}
+use Rattle.crn_drawing.specs.Levels.{record_with}
 use Rattle.crn_drawing.specs.declared.Unpacked.{Unpacked}
 use Rattle.crn_sizes.proofs.Counts.{most_cutouts, most_symbols, symbols-few}
 use Rattle.crn_levels.proofs.Steps.{rest-whole, put_whole}
-use Rattle.picture.specs.Surfaces.{picture_of, surface, chain_to, by_face}
+use Rattle.picture.specs.Surfaces.{picture_of, surface, by_face}
 use Rattle.picture.specs.Writing.{nothing, put_from}
 use Rattle.picture.proofs.Chains.{chain-none}
 use Rattle.picture.proofs.Bytes.{distance_so, room_for, chain-after}
 use Rattle.picture_levels.specs.Puts.{refused_by}
 use Rattle.picture_levels.proofs.Steps.{on, off, few_cuts, all_in, not_in, none_left}
 use Rattle.picture_levels.proofs.put_by_face.Goals as goal
-use Rattle.picture_levels.proofs.put_by_face.Invariants.{Going}
 
 -- of a level that is there: its bytes, the room for it, its symbols
 record Here (h : Header) (from distance symbols level n : ℕ) : Type 0 where
@@ -50,71 +44,83 @@ loop-level-init c =
     }
 
 pub slice_bounds-unpack_made-count : goal.slice_bounds-unpack_made-count
-slice_bounds-unpack_made-count c = omega (arith, ((let it : Here c.args.h c.loop-level.from c.level_sizes-z.result.distance
-    c.level_sizes-z.result.symbols c.loop-level.level (length c.loop-level.dst) = (let within = c.requires.tabled.made.within in
-    let number : c.loop-level.level < c.args.h.levels = omega (arith, c.loop-level-test.true) in
-    record {
-      number = number;
-      bytes = distance_so c.args.h within c.loop-level.level number c.level_sizes-z.ensures;
-      room =
-          room_for c.args.h within c.args.head (length c.loop-level.dst) c.requires.step_same
-              (omega (arith, c.requires.room, c.loop-level.invariant.long))
-          c.loop-level.invariant.place
-          number;
-      few = symbols-few c.args.h c.loop-level.level within (lt-ltb _ _ number) c.level_sizes-z.ensures;
-      levels = (limited c.args.h within).levels;
-    }) in it)).room)
+slice_bounds-unpack_made-count c = omega (
+  arith,
+  ((let it : Here c.args.h c.loop-level.from c.level_sizes-z.result.distance
+      c.level_sizes-z.result.symbols c.loop-level.level (length c.loop-level.dst) = (let within = c.requires.tabled.made.within in
+      let number : c.loop-level.level < c.args.h.levels = omega (arith, c.loop-level-test.true) in
+      record {
+        number = number;
+        bytes = distance_so c.args.h within c.loop-level.level number c.level_sizes-z.ensures;
+        room =
+            room_for c.args.h within c.args.head (length c.loop-level.dst) c.requires.step_same
+            (omega (arith, c.requires.room, c.loop-level.invariant.long))
+            c.loop-level.invariant.place
+            number;
+        few = symbols-few c.args.h c.loop-level.level within (lt-ltb _ _ number) c.level_sizes-z.ensures;
+        levels = (limited c.args.h within).levels;
+      }) in it)).room,
+)
 
 pub slice_bounds-unpack_made-start : goal.slice_bounds-unpack_made-start
-slice_bounds-unpack_made-start c = omega (arith, ((let it : Here c.args.h c.loop-level.from c.level_sizes-z.result.distance
-    c.level_sizes-z.result.symbols c.loop-level.level (length c.loop-level.dst) = (let within = c.requires.tabled.made.within in
-    let number : c.loop-level.level < c.args.h.levels = omega (arith, c.loop-level-test.true) in
-    record {
-      number = number;
-      bytes = distance_so c.args.h within c.loop-level.level number c.level_sizes-z.ensures;
-      room =
-          room_for c.args.h within c.args.head (length c.loop-level.dst) c.requires.step_same
-              (omega (arith, c.requires.room, c.loop-level.invariant.long))
-          c.loop-level.invariant.place
-          number;
-      few = symbols-few c.args.h c.loop-level.level within (lt-ltb _ _ number) c.level_sizes-z.ensures;
-      levels = (limited c.args.h within).levels;
-    }) in it)).room)
+slice_bounds-unpack_made-start c = omega (
+  arith,
+  ((let it : Here c.args.h c.loop-level.from c.level_sizes-z.result.distance
+      c.level_sizes-z.result.symbols c.loop-level.level (length c.loop-level.dst) = (let within = c.requires.tabled.made.within in
+      let number : c.loop-level.level < c.args.h.levels = omega (arith, c.loop-level-test.true) in
+      record {
+        number = number;
+        bytes = distance_so c.args.h within c.loop-level.level number c.level_sizes-z.ensures;
+        room =
+            room_for c.args.h within c.args.head (length c.loop-level.dst) c.requires.step_same
+            (omega (arith, c.requires.room, c.loop-level.invariant.long))
+            c.loop-level.invariant.place
+            number;
+        few = symbols-few c.args.h c.loop-level.level within (lt-ltb _ _ number) c.level_sizes-z.ensures;
+        levels = (limited c.args.h within).levels;
+      }) in it)).room,
+)
 
 pub slice_bounds-unpack_made-end : goal.slice_bounds-unpack_made-end
-slice_bounds-unpack_made-end c = omega (arith, ((let it : Here c.args.h c.loop-level.from c.level_sizes-z.result.distance
-    c.level_sizes-z.result.symbols c.loop-level.level (length c.loop-level.dst) = (let within = c.requires.tabled.made.within in
-    let number : c.loop-level.level < c.args.h.levels = omega (arith, c.loop-level-test.true) in
-    record {
-      number = number;
-      bytes = distance_so c.args.h within c.loop-level.level number c.level_sizes-z.ensures;
-      room =
-          room_for c.args.h within c.args.head (length c.loop-level.dst) c.requires.step_same
-              (omega (arith, c.requires.room, c.loop-level.invariant.long))
-          c.loop-level.invariant.place
-          number;
-      few = symbols-few c.args.h c.loop-level.level within (lt-ltb _ _ number) c.level_sizes-z.ensures;
-      levels = (limited c.args.h within).levels;
-    }) in it)).room)
+slice_bounds-unpack_made-end c = omega (
+  arith,
+  ((let it : Here c.args.h c.loop-level.from c.level_sizes-z.result.distance
+      c.level_sizes-z.result.symbols c.loop-level.level (length c.loop-level.dst) = (let within = c.requires.tabled.made.within in
+      let number : c.loop-level.level < c.args.h.levels = omega (arith, c.loop-level-test.true) in
+      record {
+        number = number;
+        bytes = distance_so c.args.h within c.loop-level.level number c.level_sizes-z.ensures;
+        room =
+            room_for c.args.h within c.args.head (length c.loop-level.dst) c.requires.step_same
+            (omega (arith, c.requires.room, c.loop-level.invariant.long))
+            c.loop-level.invariant.place
+            number;
+        few = symbols-few c.args.h c.loop-level.level within (lt-ltb _ _ number) c.level_sizes-z.ensures;
+        levels = (limited c.args.h within).levels;
+      }) in it)).room,
+)
 
 pub unpack_made-u-requires : goal.unpack_made-u-requires
 unpack_made-u-requires c = c.requires.tabled
 
 pub overflow_sub-symbols : goal.overflow_sub-symbols
-overflow_sub-symbols c = omega (arith, (let it : c.unpack_made-u.new.budget ≤ c.level_sizes-z.result.symbols =
-    (omega (arith, (c.unpack_made-u.ensures c.requires.tabled.of c.requires.tabled.made).spent)) in it))
+overflow_sub-symbols c = omega (
+  arith,
+  (let it : c.unpack_made-u.new.budget ≤ c.level_sizes-z.result.symbols =
+      (omega (arith, (c.unpack_made-u.ensures c.requires.tabled.of c.requires.tabled.made).spent)) in it),
+)
 
 pub overflow_add-symbols : goal.overflow_add-symbols
 overflow_add-symbols c =
     let w : Here c.args.h c.loop-level.from c.level_sizes-z.result.distance c.level_sizes-z.result.symbols c.loop-level.level
-        (length c.loop-level.dst) = let within = c.requires.tabled.made.within in
+    (length c.loop-level.dst) = let within = c.requires.tabled.made.within in
     let number : c.loop-level.level < c.args.h.levels = omega (arith, c.loop-level-test.true) in
     record {
       number = number;
       bytes = distance_so c.args.h within c.loop-level.level number c.level_sizes-z.ensures;
       room =
           room_for c.args.h within c.args.head (length c.loop-level.dst) c.requires.step_same
-              (omega (arith, c.requires.room, c.loop-level.invariant.long))
+          (omega (arith, c.requires.room, c.loop-level.invariant.long))
           c.loop-level.invariant.place
           number;
       few = symbols-few c.args.h c.loop-level.level within (lt-ltb _ _ number) c.level_sizes-z.ensures;
@@ -149,10 +155,10 @@ returns-in_default c =
       c.loop-level-test.true,
     )) c.level_sizes-z.ensures c.loop-level.invariant.place
     (rest-whole c.loop-level.from c.loop-level.dst) c.requires.step_same (rw c.in_default.is at (c.unpack_made-u.ensures t m))) ∙
-        c.loop-level.invariant.goes t m)
+    c.loop-level.invariant.goes t m)
     c.clear.ensures ((let it : length (put_mid c.loop-level.from (length c.loop-level.dst - c.loop-level.from) c.loop-level.dst
-        c.unpack_made-u.new.dst) ≡ length c.args.dst.now = (same_len_mid c.loop-level.from (length c.loop-level.dst - c.loop-level.from)
-        c.loop-level.dst c.unpack_made-u.new.dst
+    c.unpack_made-u.new.dst) ≡ length c.args.dst.now = (same_len_mid c.loop-level.from (length c.loop-level.dst - c.loop-level.from)
+    c.loop-level.dst c.unpack_made-u.new.dst
     c.unpack_made-u.auto.dst ∙ c.loop-level.invariant.long) in it))
 
 pub overflow_add-level : goal.overflow_add-level
@@ -164,7 +170,7 @@ overflow_add-level c = let w : Here c.args.h c.loop-level.from c.level_sizes-z.r
       bytes = distance_so c.args.h within c.loop-level.level number c.level_sizes-z.ensures;
       room =
           room_for c.args.h within c.args.head (length c.loop-level.dst) c.requires.step_same
-              (omega (arith, c.requires.room, c.loop-level.invariant.long))
+          (omega (arith, c.requires.room, c.loop-level.invariant.long))
           c.loop-level.invariant.place
           number;
       few = symbols-few c.args.h c.loop-level.level within (lt-ltb _ _ number) c.level_sizes-z.ensures;
@@ -174,14 +180,14 @@ overflow_add-level c = let w : Here c.args.h c.loop-level.from c.level_sizes-z.r
 pub overflow_add-from : goal.overflow_add-from
 overflow_add-from c =
     let w : Here c.args.h c.loop-level.from c.level_sizes-z.result.distance c.level_sizes-z.result.symbols c.loop-level.level
-        (length c.loop-level.dst) = let within = c.requires.tabled.made.within in
+    (length c.loop-level.dst) = let within = c.requires.tabled.made.within in
     let number : c.loop-level.level < c.args.h.levels = omega (arith, c.loop-level-test.true) in
     record {
       number = number;
       bytes = distance_so c.args.h within c.loop-level.level number c.level_sizes-z.ensures;
       room =
           room_for c.args.h within c.args.head (length c.loop-level.dst) c.requires.step_same
-              (omega (arith, c.requires.room, c.loop-level.invariant.long))
+          (omega (arith, c.requires.room, c.loop-level.invariant.long))
           c.loop-level.invariant.place
           number;
       few = symbols-few c.args.h c.loop-level.level within (lt-ltb _ _ number) c.level_sizes-z.ensures;
@@ -198,14 +204,14 @@ overflow_add-from c =
 pub overflow_add-cutouts : goal.overflow_add-cutouts
 overflow_add-cutouts c =
     let w : Here c.args.h c.loop-level.from c.level_sizes-z.result.distance c.level_sizes-z.result.symbols c.loop-level.level
-        (length c.loop-level.dst) = let within = c.requires.tabled.made.within in
+    (length c.loop-level.dst) = let within = c.requires.tabled.made.within in
     let number : c.loop-level.level < c.args.h.levels = omega (arith, c.loop-level-test.true) in
     record {
       number = number;
       bytes = distance_so c.args.h within c.loop-level.level number c.level_sizes-z.ensures;
       room =
           room_for c.args.h within c.args.head (length c.loop-level.dst) c.requires.step_same
-              (omega (arith, c.requires.room, c.loop-level.invariant.long))
+          (omega (arith, c.requires.room, c.loop-level.invariant.long))
           c.loop-level.invariant.place
           number;
       few = symbols-few c.args.h c.loop-level.level within (lt-ltb _ _ number) c.level_sizes-z.ensures;
@@ -214,8 +220,8 @@ overflow_add-cutouts c =
     omega (
       arith,
       (let it : c.in-Blocks.cut ≤ most_cutouts = (few_cuts (record_with c.args.h c.requires.tabled.of) _ _ _ _ _ _ _
-    (rw c.in-Blocks.is at (c.unpack_made-u.ensures
-    c.requires.tabled.of c.requires.tabled.made))) in it),
+          (rw c.in-Blocks.is at (c.unpack_made-u.ensures
+          c.requires.tabled.of c.requires.tabled.made))) in it),
       c.loop-level.invariant.cut,
       w.number,
       w.levels,
@@ -227,14 +233,14 @@ loop-level-smaller c = omega (arith, c.loop-level-test.true)
 pub loop-level-preserved : goal.loop-level-preserved
 loop-level-preserved c =
     let w : Here c.args.h c.loop-level.from c.level_sizes-z.result.distance c.level_sizes-z.result.symbols c.loop-level.level
-        (length c.loop-level.dst) = let within = c.requires.tabled.made.within in
+    (length c.loop-level.dst) = let within = c.requires.tabled.made.within in
     let number : c.loop-level.level < c.args.h.levels = omega (arith, c.loop-level-test.true) in
     record {
       number = number;
       bytes = distance_so c.args.h within c.loop-level.level number c.level_sizes-z.ensures;
       room =
           room_for c.args.h within c.args.head (length c.loop-level.dst) c.requires.step_same
-              (omega (arith, c.requires.room, c.loop-level.invariant.long))
+          (omega (arith, c.requires.room, c.loop-level.invariant.long))
           c.loop-level.invariant.place
           number;
       few = symbols-few c.args.h c.loop-level.level within (lt-ltb _ _ number) c.level_sizes-z.ensures;
@@ -246,12 +252,16 @@ loop-level-preserved c =
       long = (let it : length (put_mid c.loop-level.from (length c.loop-level.dst - c.loop-level.from) c.loop-level.dst
           c.unpack_made-u.new.dst) ≡ length c.args.dst.now = (same_len_mid c.loop-level.from (length c.loop-level.dst - c.loop-level.from)
           c.loop-level.dst c.unpack_made-u.new.dst
-    c.unpack_made-u.auto.dst ∙ c.loop-level.invariant.long) in it);
+          c.unpack_made-u.auto.dst ∙ c.loop-level.invariant.long) in it);
       drawn = omega (arith, c.loop-level.invariant.drawn, w.few);
-      cut = omega (arith, c.loop-level.invariant.cut, (let it : c.in-Blocks.cut ≤ most_cutouts =
-          (few_cuts (record_with c.args.h c.requires.tabled.of) _ _ _ _ _ _ _
-    (rw c.in-Blocks.is at (c.unpack_made-u.ensures
-    c.requires.tabled.of c.requires.tabled.made))) in it));
+      cut = omega (
+        arith,
+        c.loop-level.invariant.cut,
+        (let it : c.in-Blocks.cut ≤ most_cutouts =
+            (few_cuts (record_with c.args.h c.requires.tabled.of) _ _ _ _ _ _ _
+            (rw c.in-Blocks.is at (c.unpack_made-u.ensures
+            c.requires.tabled.of c.requires.tabled.made))) in it),
+      );
       goes = λ t m.
           sym (on (by_face c.args.head (picture_of c.args.h)) (record_with c.args.h t) _ _ c.loop-level.level _ c.loop-level.dst
           (c.args.h.levels - (c.loop-level.level + 1)) (omega (arith, w.number)) c.level_sizes-z.ensures c.loop-level.invariant.place

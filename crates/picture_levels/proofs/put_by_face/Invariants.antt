@@ -1,29 +1,17 @@
 -- The invariant: with the levels so far in their places, the definition goes on to where it goes from the start.
-use Prim.Native.Nat.{ℕ, ◌+◌, ◌*◌, ◌-◌, ◌≤◌, ◌<◌}
-use mathlib.Core.Path.{◌≡◌, refl, sym, ap, ◌∙◌}
+use Prim.Native.Nat.{ℕ, ◌+◌, ◌*◌, ◌-◌, ◌≤◌}
+use mathlib.Core.Path.{◌≡◌}
 use mathlib.Core.List.{List}
-use native.Mathlib.Omega.{arith}
-use native.Mathlib.Nat.{sub-zero}
 use lib.ListN.{length}
-use borrow.Author.Rules.{rules}
-use borrow.Author.Tests.{lt-ltb}
-use borrow.Rule.Slice.PartMut.{put_mid, same_len_mid}
 use Rattle.crn_format.specs.Opening.{Palettes}
 use Rattle.crn_format.specs.declared.Header.{Header}
 use Rattle.crn_format.specs.declared.Tables.{Tables}
 use Rattle.crn_formats.specs.Lent.{lent_of}
-use Rattle.crn_formats.proofs.Limited.{limited}
 use Rattle.crn_decoders.specs.declared.decoders.Sizes.{Sizes}
 use Rattle.crn_drawing.specs.Levels.{record_with, Made}
-use Rattle.crn_drawing.specs.declared.Unpacked.{Unpacked}
-use Rattle.crn_sizes.proofs.Counts.{most_cutouts, most_symbols, symbols-few}
-use Rattle.crn_levels.proofs.Steps.{rest-whole, put_whole}
-use Rattle.picture.specs.Surfaces.{picture_of, surface, chain_to, by_face}
+use Rattle.crn_sizes.proofs.Counts.{most_cutouts, most_symbols}
+use Rattle.picture.specs.Surfaces.{picture_of, chain_to, by_face}
 use Rattle.picture.specs.Writing.{nothing, put_from}
-use Rattle.picture.proofs.Chains.{chain-none}
-use Rattle.picture.proofs.Bytes.{distance_so, room_for, chain-after}
-use Rattle.picture_levels.specs.Puts.{refused_by}
-use Rattle.picture_levels.proofs.Steps.{on, off, few_cuts, all_in, not_in, none_left}
 use Rattle.picture_levels.proofs.put_by_face.Given as goal
 
 pub record Going (h : Header) (s : Sizes) (lookup sorted file : List ℕ) (p : Palettes) (head : ℕ) (dst₀ dst : List ℕ)

@@ -1,9 +1,6 @@
 -- By small or by large tables: of each there is room for five.
-use mathlib.Core.Path.{◌≡◌, sym, ◌∙◌}
-use Rattle.crn_format.specs.declared.Record.{Record}
 use Rattle.crn_formats.specs.Records.{record_by}
-use Rattle.crn_decoders.specs.declared.decoders.Sizes.{Sizes}
-use Rattle.crn_decoders.specs.Tables.{Long, AllFair}
+use Rattle.crn_decoders.specs.Tables.{Long}
 use Rattle.crn_decoders.proofs.Made.{all_fair, at_most}
 use Rattle.crn_decoders.proofs.Sized.{Sized, sized, able_in}
 use borrow.Author.Rules.{rules}
@@ -13,26 +10,45 @@ pub put_in-requires : goal.put_in-requires
 put_in-requires c =
     let z : Sized c.args.counts c.sizes_for-s.result = sized _ _ _ c.sizes_for-s.ensures in
     let r = record_by c.args.h c.args.counts c.args.chunk.now c.args.color_ends.now c.args.color_sels.now c.args.alpha_ends.now
-        c.args.alpha_sels.now in
-    let long : Long r.tables = search rules in record { within_limits = c.requires.within_limits; tables_hold = c.requires.tables_hold;
-        all_fair = all_fair r.tables _ long c.requires.tables_hold (z.room (at_most r.tables c.requires.tables_hold)); able = able_in 288
-        1024 z c.if-s-le288.true c.if-s-le1024.true; chain_same = c.requires.chain_same; room = c.requires.room }
+    c.args.alpha_sels.now in
+    let long : Long r.tables = search rules in record {
+      within_limits = c.requires.within_limits;
+      tables_hold = c.requires.tables_hold;
+      all_fair = all_fair r.tables _ long c.requires.tables_hold (z.room (at_most r.tables c.requires.tables_hold));
+      able = able_in 288
+          1024 z c.if-s-le288.true c.if-s-le1024.true;
+      chain_same = c.requires.chain_same;
+      room = c.requires.room;
+    }
 
 pub put_in-requires-then-s-le1024 : goal.put_in-requires-then-s-le1024
 put_in-requires-then-s-le1024 c =
     let z : Sized c.args.counts c.sizes_for-s.result = sized _ _ _ c.sizes_for-s.ensures in
     let r = record_by c.args.h c.args.counts c.args.chunk.now c.args.color_ends.now c.args.color_sels.now c.args.alpha_ends.now
-        c.args.alpha_sels.now in
-    let long : Long r.tables = search rules in record { within_limits = c.requires.within_limits; tables_hold = c.requires.tables_hold;
-        all_fair = all_fair r.tables _ long c.requires.tables_hold (z.room (at_most r.tables c.requires.tables_hold)); able = able_in 2080
-        1024 z (z.fewer c.if-s-le1024.true) c.if-s-le1024.true; chain_same = c.requires.chain_same; room = c.requires.room }
+    c.args.alpha_sels.now in
+    let long : Long r.tables = search rules in record {
+      within_limits = c.requires.within_limits;
+      tables_hold = c.requires.tables_hold;
+      all_fair = all_fair r.tables _ long c.requires.tables_hold (z.room (at_most r.tables c.requires.tables_hold));
+      able = able_in 2080
+          1024 z (z.fewer c.if-s-le1024.true) c.if-s-le1024.true;
+      chain_same = c.requires.chain_same;
+      room = c.requires.room;
+    }
 
 pub put_in-requires-2 : goal.put_in-requires-2
 put_in-requires-2 c =
     let z : Sized c.args.counts c.sizes_for-s.result = sized _ _ _ c.sizes_for-s.ensures in
     let r = record_by c.args.h c.args.counts c.args.chunk.now c.args.color_ends.now c.args.color_sels.now c.args.alpha_ends.now
-        c.args.alpha_sels.now in
+    c.args.alpha_sels.now in
     let long : Long r.tables = search rules in
-    record { within_limits = c.requires.within_limits; tables_hold = c.requires.tables_hold; all_fair = all_fair r.tables _ long
-        c.requires.tables_hold (z.room (at_most r.tables c.requires.tables_hold)); able = able_in 4128 8192 z z.words z.symbols; chain_same
-        = c.requires.chain_same; room = c.requires.room }
+    record {
+      within_limits = c.requires.within_limits;
+      tables_hold = c.requires.tables_hold;
+      all_fair = all_fair r.tables _ long
+          c.requires.tables_hold (z.room (at_most r.tables c.requires.tables_hold));
+      able = able_in 4128 8192 z z.words z.symbols;
+      chain_same
+          = c.requires.chain_same;
+      room = c.requires.room;
+    }

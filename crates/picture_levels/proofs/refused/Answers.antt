@@ -1,4 +1,3 @@
-use borrow.Author.Rules.{rules}
 use Rattle.picture_levels.proofs.refused.Reads as reads
 use Rattle.picture_levels.proofs.refused.Lts as lts
 use Rattle.picture_levels.proofs.refused.Goals as goal

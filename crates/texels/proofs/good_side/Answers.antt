@@ -1,6 +1,5 @@
 -- Both tests. Assumes nothing.
 use mathlib.Core.Path.{refl}
-use borrow.Author.Rules.{rules}
 use Rattle.texels.proofs.good_side.Goals as goal
 
 pub returns : goal.returns

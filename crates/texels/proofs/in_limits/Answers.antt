@@ -1,5 +1,4 @@
 -- All three.
-use borrow.Author.Rules.{rules}
 use Rattle.texels.proofs.in_limits.Goals as goal
 
 pub returns : goal.returns

@@ -3,12 +3,10 @@ use Prim.Native.Nat.{◌≤◌}
 use mathlib.Core.Path.{sym, ◌∙◌}
 use native.Mathlib.Nat.{mul-le-mul}
 use native.Mathlib.Omega.{arith}
-use borrow.Author.Tests.{not-true, not-false}
 use Rattle.crn_format.specs.Header.{kind_of}
 use Rattle.crn_formats.proofs.ByFormat.{bytes-at-most}
 use Rattle.bcn_format.specs.Picture.{enough}
 use Rattle.texels.proofs.Refusing.{sides, few-blocks, not-fine, low-pitch, too_few, short, none_due, too_short, long-enough}
-use borrow.Author.Rules.{rules}
 use Rattle.texels.proofs.refusal_of.Goals as goal
 
 pub returns-then-not-in_limits : goal.returns-then-not-in_limits

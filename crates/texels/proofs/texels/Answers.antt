@@ -2,7 +2,6 @@
 use mathlib.Core.Path.{sym, ◌∙◌}
 use lib.ListN.{length}
 use Rattle.texels.proofs.Refusing.{accepted, left_alone, drawn-there}
-use borrow.Author.Rules.{rules}
 use Rattle.texels.proofs.texels.Goals as goal
 
 pub returns-then-r-ne0 : goal.returns-then-r-ne0

@@ -1,5 +1,4 @@
 -- What the callee ensures is what is asked. Assumes nothing.
-use borrow.Author.Rules.{rules}
 use Rattle.texels_abi.proofs.crunch_texels.Goals as goal
 
 pub returns : goal.returns

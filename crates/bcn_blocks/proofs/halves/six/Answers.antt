@@ -1,7 +1,6 @@
 -- Three pairs, the first the lowest.
 use native.Mathlib.Omega.{arith}
 use Rattle.bcn_blocks.proofs.Laws.{six-little}
-use borrow.Author.Rules.{rules}
 use Rattle.bcn_blocks.proofs.halves.six.Goals as goal
 
 pub returns : goal.returns

@@ -1,7 +1,6 @@
 -- The sizes, by the tests that led to them.
 use mathlib.Core.Path.{sym, ◌∙◌}
 use Rattle.crn_decoders.specs.Tables.{sizes_for}
-use borrow.Author.Rules.{rules}
 use Rattle.crn_decoders.proofs.decoders.sizes_for.Goals as goal
 
 pub returns-then-columns-rows-2 : goal.returns-then-columns-rows-2

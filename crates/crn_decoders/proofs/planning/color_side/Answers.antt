@@ -1,7 +1,6 @@
 -- The colour plane.
 use native.Mathlib.Omega.{arith}
 use Rattle.crn_decoders.proofs.Numbers.{few-tables}
-use borrow.Author.Rules.{rules}
 use Rattle.crn_decoders.proofs.planning.color_side.Goals as goal
 
 pub overflow_add-result : goal.overflow_add-result

@@ -1,12 +1,10 @@
-use Prim.Native.Nat.{◌-◌, ◌≤◌}
+use Prim.Native.Nat.{◌-◌}
 use mathlib.Core.Path.{◌≡◌, refl, sym, ◌∙◌}
 use native.Mathlib.Omega.{arith}
 use lib.Dec.{eqb}
-use lib.ListN.{length, drop}
+use lib.ListN.{length}
 use borrow.Author.Rules.{rules}
-use Rattle.crn_format.specs.Choice.{both}
 use Rattle.crn_format.specs.Limits.{max_levels}
-use Rattle.crn_format.specs.Loading.{same_all}
 use Rattle.crn_decomp.proofs.Compared.{turn, ended}
 use Rattle.crn_decomp.proofs.agreeing.same_offsets.Goals as goal
 

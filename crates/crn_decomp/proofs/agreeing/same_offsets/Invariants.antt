@@ -1,14 +1,11 @@
 -- The offsets of two headers. Invariant: what has been compared, and the rest, is the whole.
 use Prim.Native.Nat.{◌-◌, ◌≤◌}
-use mathlib.Core.Path.{◌≡◌, refl, sym, ◌∙◌}
-use native.Mathlib.Omega.{arith}
+use mathlib.Core.Path.{◌≡◌}
 use lib.Dec.{eqb}
-use lib.ListN.{length, drop}
-use borrow.Author.Rules.{rules}
+use lib.ListN.{drop}
 use Rattle.crn_format.specs.Choice.{both}
 use Rattle.crn_format.specs.Limits.{max_levels}
 use Rattle.crn_format.specs.Loading.{same_all}
-use Rattle.crn_decomp.proofs.Compared.{turn, ended}
 use Rattle.crn_decomp.proofs.agreeing.same_offsets.Given as goal
 
 abbrev pub invariant-loop-i : goal.invariant-loop-i

@@ -2,7 +2,6 @@
 use Rattle.crn_format.specs.Header.{kind_of}
 use Rattle.crn_format.specs.Unpacking.{cutout_count}
 use Rattle.crn_drawing.proofs.Formats.{no-cutouts}
-use borrow.Author.Rules.{rules}
 use Rattle.crn_drawing.proofs.drawing.count_cutouts.Goals as goal
 
 pub returns-then-format-eq0 : goal.returns-then-format-eq0

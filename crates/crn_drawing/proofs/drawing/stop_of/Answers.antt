@@ -1,5 +1,4 @@
 -- The refusal of an answer.
-use borrow.Author.Rules.{rules}
 use Rattle.crn_drawing.proofs.drawing.stop_of.Goals as goal
 
 pub returns-in-On : goal.returns-in-On

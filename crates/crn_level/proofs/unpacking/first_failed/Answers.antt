@@ -1,5 +1,4 @@
 -- The checks in their order: the first that fails decides.
-use borrow.Author.Tests.{not-true, not-false}
 use Rattle.crn_level.specs.Refusals.{first_failed}
 use Rattle.crn_level.proofs.unpacking.first_failed.Goals as goal
 
@@ -29,17 +28,37 @@ returns-then-not-palettes c =
 pub returns-then-not-grid : goal.returns-then-not-grid
 unfolding first_failed
 returns-then-not-grid c =
-    simp (c.if-not-limits.false, c.if-not-tables.false, c.if-not-number.false, c.if-not-stands.false, c.if-not-palettes.false,
-        c.if-not-grid.true)
+    simp (
+      c.if-not-limits.false,
+      c.if-not-tables.false,
+      c.if-not-number.false,
+      c.if-not-stands.false,
+      c.if-not-palettes.false,
+      c.if-not-grid.true,
+    )
 
 pub returns-then-not-room : goal.returns-then-not-room
 unfolding first_failed
 returns-then-not-room c =
-    simp (c.if-not-limits.false, c.if-not-tables.false, c.if-not-number.false, c.if-not-stands.false, c.if-not-palettes.false,
-        c.if-not-grid.false, c.if-not-room.true)
+    simp (
+      c.if-not-limits.false,
+      c.if-not-tables.false,
+      c.if-not-number.false,
+      c.if-not-stands.false,
+      c.if-not-palettes.false,
+      c.if-not-grid.false,
+      c.if-not-room.true,
+    )
 
 pub returns : goal.returns
 unfolding first_failed
 returns c =
-    simp (c.if-not-limits.false, c.if-not-tables.false, c.if-not-number.false, c.if-not-stands.false, c.if-not-palettes.false,
-        c.if-not-grid.false, c.if-not-room.false)
+    simp (
+      c.if-not-limits.false,
+      c.if-not-tables.false,
+      c.if-not-number.false,
+      c.if-not-stands.false,
+      c.if-not-palettes.false,
+      c.if-not-grid.false,
+      c.if-not-room.false,
+    )

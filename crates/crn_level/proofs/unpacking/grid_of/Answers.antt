@@ -1,6 +1,5 @@
 -- The level's grid.
 use Rattle.crn_format.specs.Unpacking.{grid_of}
-use borrow.Author.Rules.{rules}
 use Rattle.crn_level.proofs.unpacking.grid_of.Goals as goal
 
 pub returns : goal.returns

@@ -1,5 +1,4 @@
 -- The checks of a level, each by its own function.
-use borrow.Author.Rules.{rules}
 use Rattle.crn_level.proofs.unpacking.refusal.Goals as goal
 
 pub returns : goal.returns

@@ -2,22 +2,34 @@
 use Prim.Native.Nat.{◌-◌}
 use native.Mathlib.Omega.{arith}
 use Rattle.crn_level.proofs.Checks.{inside, segment-short}
-use borrow.Author.Rules.{rules}
 use Rattle.crn_level.proofs.unpacking.segment_of.Goals as goal
 
 pub slice_bounds-result-count : goal.slice_bounds-result-count
-slice_bounds-result-count c = omega (arith, c.level_end-end.ensures, c.level_start-start.ensures, (inside _ _ _ c.requires).some,
-    (inside _ _ _ c.requires).ends)
+slice_bounds-result-count c = omega (
+  arith,
+  c.level_end-end.ensures,
+  c.level_start-start.ensures,
+  (inside _ _ _ c.requires).some,
+  (inside _ _ _ c.requires).ends,
+)
 
 pub slice_bounds-result-start : goal.slice_bounds-result-start
 slice_bounds-result-start c =
     omega (arith, c.level_end-end.ensures, c.level_start-start.ensures, (inside _ _ _ c.requires).some, (inside _ _ _ c.requires).ends)
 
 pub slice_bounds-result-end : goal.slice_bounds-result-end
-slice_bounds-result-end c = omega (arith, c.level_end-end.ensures, c.level_start-start.ensures, (inside _ _ _ c.requires).some,
-    (inside _ _ _ c.requires).ends)
+slice_bounds-result-end c = omega (
+  arith,
+  c.level_end-end.ensures,
+  c.level_start-start.ensures,
+  (inside _ _ _ c.requires).some,
+  (inside _ _ _ c.requires).ends,
+)
 
 pub returns : goal.returns
 returns c =
-    let i = inside _ _ _ c.requires in (rw (c.level_end-end.ensures, c.level_start-start.ensures), omega
-        (arith, i.short, segment-short c.args.file.now c.level_start-start.result (c.level_end-end.result - c.level_start-start.result)))
+    let i = inside _ _ _ c.requires in (
+      rw (c.level_end-end.ensures, c.level_start-start.ensures),
+      omega
+          (arith, i.short, segment-short c.args.file.now c.level_start-start.result (c.level_end-end.result - c.level_start-start.result)),
+    )

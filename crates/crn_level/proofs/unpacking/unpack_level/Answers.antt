@@ -1,5 +1,4 @@
 -- A level, with the record taken apart.
-use borrow.Author.Rules.{rules}
 use Rattle.crn_level.proofs.unpacking.unpack_level.Goals as goal
 
 pub returns : goal.returns

@@ -1,8 +1,6 @@
 -- The checks from 4 on, and then the streams, by the checks that led to each return.
 use mathlib.Core.Path.{sym, ◌∙◌}
-use borrow.Author.Tests.{not-true, not-false}
 use Rattle.crn_opening.proofs.Opens.{closed_by, no-segment, no_room, then-streams}
-use borrow.Author.Rules.{rules}
 use Rattle.crn_opening.proofs.opening.after_look.Goals as goal
 
 pub returns-then-not-stand : goal.returns-then-not-stand
@@ -17,11 +15,14 @@ returns-then-not-room c =
 
 pub read_streams-requires : goal.read_streams-requires
 read_streams-requires c =
-    record { passed = record {
-    seen = c.requires;
-    stand = sym c.segments_stand-stand.ensures ∙ c.if-not-stand.false;
-    room = sym c.room_for-room.ensures ∙ c.if-not-room.false;
-  }; all_zero = c.clear_tables.ensures }
+    record {
+      passed = record {
+        seen = c.requires;
+        stand = sym c.segments_stand-stand.ensures ∙ c.if-not-stand.false;
+        room = sym c.room_for-room.ensures ∙ c.if-not-room.false;
+      };
+      all_zero = c.clear_tables.ensures;
+    }
 
 pub returns : goal.returns
 returns c =

@@ -1,6 +1,5 @@
 -- All four buffers zero.
 use Rattle.crn_opening.proofs.Streams.{all-zero}
-use borrow.Author.Rules.{rules}
 use Rattle.crn_opening.proofs.opening.clear.Goals as goal
 
 pub returns : goal.returns

@@ -1,8 +1,6 @@
 -- A load: the record against the file, and then the rest.
 use mathlib.Core.Path.{sym, ◌∙◌}
-use borrow.Author.Tests.{not-true, not-false}
 use Rattle.crn_opening.proofs.Opens.{loads_apart, agreed, loads_on}
-use borrow.Author.Rules.{rules}
 use Rattle.crn_opening.proofs.opening.load_into.Goals as goal
 
 pub returns-then-not-agrees : goal.returns-then-not-agrees

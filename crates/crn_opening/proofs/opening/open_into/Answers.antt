@@ -1,6 +1,5 @@
 -- Opening: the look, and then the rest.
 use Rattle.crn_opening.proofs.Opens.{closed_by, look-refused, look-passed, then_opens}
-use borrow.Author.Rules.{rules}
 use Rattle.crn_opening.proofs.opening.open_into.Goals as goal
 
 pub returns-then-looked-ne0 : goal.returns-then-looked-ne0

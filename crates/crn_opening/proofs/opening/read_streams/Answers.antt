@@ -2,15 +2,17 @@
 use native.Mathlib.Omega.{arith}
 use Rattle.crn_opening.proofs.Checks.{file-short, tables-inside}
 use Rattle.crn_opening.proofs.Opens.{closed_by, shut_by_tables, shut_by_palettes, streams-told}
-use borrow.Author.Rules.{rules}
 use Rattle.crn_opening.proofs.opening.read_streams.Goals as goal
 
 pub segment-requires : goal.segment-requires
 segment-requires c = tables-inside c.requires.passed
 
 pub read_tables-sent-requires : goal.read_tables-sent-requires
-read_tables-sent-requires c = record { seg_long = omega (arith, c.segment.ensures.1, file-short c.requires.passed); all_zero =
-    c.requires.all_zero }
+read_tables-sent-requires c = record {
+  seg_long = omega (arith, c.segment.ensures.1, file-short c.requires.passed);
+  all_zero =
+      c.requires.all_zero;
+}
 
 pub returns-then-sent-ne0 : goal.returns-then-sent-ne0
 returns-then-sent-ne0 c =

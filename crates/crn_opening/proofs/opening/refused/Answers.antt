@@ -3,7 +3,6 @@ use mathlib.Core.Path.{ap}
 use Rattle.crn_format.specs.Header.{signed_in}
 use Rattle.crn_format.specs.Look.{look_at}
 use Rattle.crn_format.specs.declared.Looked.{Looked}
-use borrow.Author.Rules.{rules}
 use Rattle.crn_opening.proofs.opening.refused.Goals as goal
 
 pub returns : goal.returns

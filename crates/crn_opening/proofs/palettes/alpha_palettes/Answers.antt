@@ -2,7 +2,6 @@
 use native.Mathlib.Omega.{arith}
 use Rattle.crn_opening.proofs.Refusals.{alpha-endpoints_numbered, alpha-selectors_numbered}
 use Rattle.crn_opening.proofs.Streams.{plane_absent, plane_stops, plane_goes-on}
-use borrow.Author.Rules.{rules}
 use Rattle.crn_opening.proofs.palettes.alpha_palettes.Goals as goal
 
 pub returns-then-ends-eq0 : goal.returns-then-ends-eq0

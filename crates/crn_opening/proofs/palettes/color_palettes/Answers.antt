@@ -2,7 +2,6 @@
 use native.Mathlib.Omega.{arith}
 use Rattle.crn_opening.proofs.Refusals.{color-endpoints_numbered, color-selectors_numbered}
 use Rattle.crn_opening.proofs.Streams.{plane_absent, plane_stops, plane_goes-on}
-use borrow.Author.Rules.{rules}
 use Rattle.crn_opening.proofs.palettes.color_palettes.Goals as goal
 
 pub returns-then-ends-eq0 : goal.returns-then-ends-eq0

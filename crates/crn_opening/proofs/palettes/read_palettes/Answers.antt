@@ -1,7 +1,6 @@
 -- The four palettes: the colour plane, then the alpha plane.
 use Rattle.crn_opening.proofs.Checks.{color-fits, alpha-fits}
 use Rattle.crn_opening.proofs.Streams.{color-stops, color-goes-on}
-use borrow.Author.Rules.{rules}
 use Rattle.crn_opening.proofs.palettes.read_palettes.Goals as goal
 
 pub color_palettes-color-requires : goal.color_palettes-color-requires

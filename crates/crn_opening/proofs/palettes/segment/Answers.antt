@@ -4,7 +4,6 @@ use mathlib.Core.Path.{◌≡◌, ap}
 use native.Mathlib.Omega.{arith}
 use lib.ListN.{take, drop}
 use Rattle.crn_opening.proofs.Checks.{segment-short}
-use borrow.Author.Rules.{rules}
 use Rattle.crn_opening.proofs.palettes.segment.Goals as goal
 
 pub returns : goal.returns

@@ -1,5 +1,4 @@
 -- A plane's two tables, received one after the other.
-use borrow.Author.Tests.{not-true, not-false}
 use Rattle.crn_opening.proofs.SentTables.{absent, first-refused, both_received}
 use Rattle.crn_opening.proofs.tables_segment.plane_tables.Goals as goal
 
@@ -15,8 +14,12 @@ returns-then-first-ne0 c = rw (c.if-not-there.false) (first-refused c.receive-fi
 
 pub receive-second-requires : goal.receive-second-requires
 receive-second-requires c =
-    record { holds = (c.receive-first.ensures.goes c.if-first-ne0.false).0; seg_long = c.requires.seg_long; lengths_zero =
-        c.requires.both_zero.1 }
+    record {
+      holds = (c.receive-first.ensures.goes c.if-first-ne0.false).0;
+      seg_long = c.requires.seg_long;
+      lengths_zero =
+          c.requires.both_zero.1;
+    }
 
 pub returns : goal.returns
 returns c =

@@ -1,5 +1,4 @@
 -- The tables segment: the chunk table, then the planes' tables.
-use borrow.Author.Rules.{rules}
 use Rattle.crn_opening.proofs.SentTables.{told-refused, chunk-refused, color-refused, alpha-refused, all-sent}
 use Rattle.crn_opening.proofs.tables_segment.read_tables.Goals as goal
 
@@ -10,8 +9,12 @@ returns-then-first-ne0 c =
 
 pub plane_tables-color-requires : goal.plane_tables-color-requires
 plane_tables-color-requires c =
-    record { holds = (c.receive-first.ensures.goes c.if-first-ne0.false).0; seg_long = c.requires.seg_long; both_zero =
-        (c.requires.all_zero.color_e, c.requires.all_zero.color_s) }
+    record {
+      holds = (c.receive-first.ensures.goes c.if-first-ne0.false).0;
+      seg_long = c.requires.seg_long;
+      both_zero =
+          (c.requires.all_zero.color_e, c.requires.all_zero.color_s);
+    }
 
 pub returns-then-color-ne0 : goal.returns-then-color-ne0
 returns-then-color-ne0 c =
@@ -23,8 +26,12 @@ returns-then-color-ne0 c =
 
 pub plane_tables-alpha-requires : goal.plane_tables-alpha-requires
 plane_tables-alpha-requires c =
-    record { holds = c.plane_tables-color.ensures.reads.holds c.if-color-ne0.false; seg_long = c.requires.seg_long; both_zero =
-        (c.requires.all_zero.alpha_e, c.requires.all_zero.alpha_s) }
+    record {
+      holds = c.plane_tables-color.ensures.reads.holds c.if-color-ne0.false;
+      seg_long = c.requires.seg_long;
+      both_zero =
+          (c.requires.all_zero.alpha_e, c.requires.all_zero.alpha_s);
+    }
 
 pub returns-then-alpha-ne0 : goal.returns-then-alpha-ne0
 returns-then-alpha-ne0 c =

@@ -1,5 +1,4 @@
 -- A refusal, with no counts.
-use borrow.Author.Rules.{rules}
 use Rattle.crn_opening.proofs.tables_segment.refused.Goals as goal
 
 pub returns : goal.returns

@@ -11,11 +11,17 @@ returns-then-symbols-gt256 c = simp (lt-leb c.args.symbols 256 (omega (arith, c.
 pub returns-then-others-gt256 : goal.returns-then-others-gt256
 unfolding few_of
 returns-then-others-gt256 c =
-    simp (le-leb c.args.symbols 256 (omega (arith, c.if-symbols-gt256.false)), lt-leb c.args.others 256
-        (omega (arith, c.if-others-gt256.true)))
+    simp (
+      le-leb c.args.symbols 256 (omega (arith, c.if-symbols-gt256.false)),
+      lt-leb c.args.others 256
+          (omega (arith, c.if-others-gt256.true)),
+    )
 
 pub returns : goal.returns
 unfolding few_of
 returns c =
-    simp (le-leb c.args.symbols 256 (omega (arith, c.if-symbols-gt256.false)), le-leb c.args.others 256
-        (omega (arith, c.if-others-gt256.false)))
+    simp (
+      le-leb c.args.symbols 256 (omega (arith, c.if-symbols-gt256.false)),
+      le-leb c.args.others 256
+          (omega (arith, c.if-others-gt256.false)),
+    )

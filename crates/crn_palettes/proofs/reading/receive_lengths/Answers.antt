@@ -2,7 +2,6 @@
 use Prim.Native.Nat.{ℕ}
 use mathlib.Core.List.{List, []}
 use mathlib.Core.Path.{◌≡◌, refl, sym, ap, ◌∙◌}
-use borrow.Author.Rules.{rules}
 use Rattle.crn_format.specs.Reading.{got, spot, from_bits}
 use Rattle.crn_format.specs.Unpacking.{lengths_of}
 use Rattle.crn_format.specs.declared.Table.{Table as Kept}

@@ -1,5 +1,4 @@
 -- From the left or from the right.
-use borrow.Author.Rules.{rules}
 use Rattle.crn_unpacker.proofs.rows.column.Goals as goal
 
 pub returns-then-turned : goal.returns-then-turned

@@ -1,11 +1,8 @@
-use Prim.Native.Nat.{ℕ, ◌+◌, ◌-◌, ◌%◌, ◌≤◌}
-use mathlib.Core.Path.{◌≡◌, refl, ap, ◌∙◌}
+use Prim.Native.Nat.{◌-◌}
+use mathlib.Core.Path.{refl, ap, ◌∙◌}
 use native.Mathlib.Omega.{arith}
-use borrow.Author.Rules.{rules}
 use Rattle.crn_blocks.specs.Sheet.{row_start}
 use Rattle.crn_blocks.proofs.Rows.{row_later}
-use Rattle.crn_unpacker.specs.Going.{given, Goes}
-use Rattle.crn_unpacker.specs.declared.Went.TheVariants.{On}
 use Rattle.crn_unpacker.proofs.Steps.{start, carry_rows, stop-early, respell, fit_kept}
 use Rattle.crn_unpacker.proofs.rows.face_rows.Goals as goal
 

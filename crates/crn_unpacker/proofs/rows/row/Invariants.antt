@@ -1,14 +1,8 @@
 -- The invariant: the row's chunks before k were gone over.
-use Prim.Native.Nat.{ℕ, ◌+◌, ◌-◌, ◌≤◌}
-use mathlib.Core.Path.{◌≡◌, refl, ◌∙◌}
-use native.Mathlib.Omega.{arith}
-use borrow.Author.Rules.{rules}
-use Rattle.crn_format.specs.Grid.{chunk_columns}
-use Rattle.crn_blocks.specs.Sheet.{row_start, chunk_number}
-use Rattle.crn_blocks.proofs.Rows.{row_next}
-use Rattle.crn_unpacker.specs.Going.{Given, given, Goes}
+use Prim.Native.Nat.{◌+◌, ◌-◌, ◌≤◌}
+use Rattle.crn_blocks.specs.Sheet.{row_start}
+use Rattle.crn_unpacker.specs.Going.{given, Goes}
 use Rattle.crn_unpacker.specs.declared.Went.TheVariants.{On}
-use Rattle.crn_unpacker.proofs.Steps.{start, carry, stop-early, respell, fit_kept, chunk-number, column-below}
 use Rattle.crn_unpacker.proofs.rows.row.Given as goal
 
 abbrev pub invariant-loop-k : goal.invariant-loop-k

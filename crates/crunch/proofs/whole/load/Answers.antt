@@ -1,7 +1,6 @@
 -- A load, with the record put together.
 use mathlib.Core.Path.{refl}
 use Rattle.crunch.proofs.Zeroed.{loads_whole}
-use borrow.Author.Rules.{rules}
 use Rattle.crunch.proofs.whole.load.Goals as goal
 
 pub returns : goal.returns

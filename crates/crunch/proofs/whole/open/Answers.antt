@@ -1,6 +1,5 @@
 -- Opening: the look, and then the load.
 use Rattle.crunch.proofs.LookThenLoad.{then-shut, then-opened}
-use borrow.Author.Rules.{rules}
 use Rattle.crunch.proofs.whole.open.Goals as goal
 
 pub returns-then-looked-ne0 : goal.returns-then-looked-ne0

@@ -1,5 +1,4 @@
 -- A level unpacked: the callee's answer, flat.
-use borrow.Author.Rules.{rules}
 use Rattle.crunch_abi.proofs.level.crunch_unpack_level_parts.Goals as goal
 
 pub returns : goal.returns

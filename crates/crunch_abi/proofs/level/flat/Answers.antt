@@ -1,5 +1,4 @@
 -- An answer as one struct.
-use borrow.Author.Rules.{rules}
 use mathlib.Core.Path.{sym, ap}
 use Rattle.crunch_abi.specs.Answers.{answer_of}
 use Rattle.crunch_abi.proofs.level.flat.Goals as goal

@@ -1,5 +1,4 @@
 -- A file's palettes loaded: what the callee ensures is what is asked.
-use borrow.Author.Rules.{rules}
 use Rattle.crunch_abi.proofs.loading.crunch_load_parts.Goals as goal
 
 pub returns : goal.returns

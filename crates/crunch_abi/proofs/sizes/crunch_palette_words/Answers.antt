@@ -1,5 +1,4 @@
 -- The words of the four palettes.
-use borrow.Author.Rules.{rules}
 use Rattle.crunch_abi.proofs.sizes.crunch_palette_words.Goals as goal
 
 pub returns : goal.returns

@@ -1,5 +1,4 @@
 -- Arm by arm. Assumes nothing.
-use mathlib.Core.Path.{◌≡◌, sym}
 use Rattle.crn_format.specs.Header.{kind_of}
 use Rattle.picture.proofs.Out.{is_nine}
 use Rattle.dds.proofs.header.letters_of.Goals as goal

@@ -1,11 +1,10 @@
 -- The words of the header, after the magic.
-use mathlib.Core.Path.{◌≡◌, ap, ◌∙◌}
+use mathlib.Core.Path.{◌≡◌, ◌∙◌}
 use native.Mathlib.Omega.{arith}
 use Rattle.picture.specs.Surfaces.{picture_of, surface}
 use Rattle.crn_formats.proofs.Limited.{limited}
 use Rattle.picture.proofs.Bytes.{distance_so, surface-few}
 use Rattle.dds.proofs.Fields.{in_two}
-use borrow.Author.Rules.{rules}
 use Rattle.dds.proofs.header.put_header.Goals as goal
 
 pub overflow_cast-linear : goal.overflow_cast-linear

@@ -1,6 +1,5 @@
 -- The four bytes, lowest first.
 use Rattle.crn_format.specs.Grid.{little}
-use borrow.Author.Rules.{rules}
 use Rattle.picture.proofs.put.put_word.Goals as goal
 
 pub returns : goal.returns

@@ -1,7 +1,6 @@
-use Prim.Native.Nat.{◌-◌, ◌≤◌}
-use mathlib.Core.Path.{◌≡◌, sym, ap, ◌∙◌}
+use Prim.Native.Nat.{◌-◌}
+use mathlib.Core.Path.{sym, ap, ◌∙◌}
 use native.Mathlib.Omega.{arith}
-use borrow.Author.Rules.{rules}
 use Rattle.picture.specs.Surfaces.{picture_of, chain_to}
 use Rattle.picture.proofs.Chains.{chain-none}
 use Rattle.crn_formats.proofs.Limited.{limited}
@@ -14,27 +13,26 @@ loop-level-init c = (omega arith, sym (chain-none (picture_of c.args.h)))
 pub overflow_add-sum : goal.overflow_add-sum
 overflow_add-sum c =
     omega (
-  arith,
-  distance_so c.args.h c.requires c.loop-level.level (omega (arith, c.loop-level-test.true))
-      c.level_sizes-sum.ensures,
-  sum-small c.args.h c.requires c.loop-level.level (omega (arith, c.loop-level-test.true)),
-  c.loop-level.invariant.1,
-)
+      arith,
+      distance_so c.args.h c.requires c.loop-level.level (omega (arith, c.loop-level-test.true))
+          c.level_sizes-sum.ensures,
+      sum-small c.args.h c.requires c.loop-level.level (omega (arith, c.loop-level-test.true)),
+      c.loop-level.invariant.1,
+    )
 
 pub overflow_add-level : goal.overflow_add-level
 overflow_add-level c =
     omega (
-  arith,
-  c.loop-level-test.true,
-  (limited c.args.h c.requires).levels,
-)
+      arith,
+      c.loop-level-test.true,
+      (limited c.args.h c.requires).levels,
+    )
 
 pub loop-level-smaller : goal.loop-level-smaller
 loop-level-smaller c = omega (arith, c.loop-level-test.true)
 
 pub loop-level-preserved : goal.loop-level-preserved
-loop-level-preserved c =
-    (
+loop-level-preserved c = (
   omega (arith, c.loop-level-test.true),
   omega (
     arith,

@@ -1,12 +1,7 @@
 -- The sum of the levels so far. Assumes nothing.
 use Prim.Native.Nat.{◌-◌, ◌≤◌}
-use mathlib.Core.Path.{◌≡◌, sym, ap, ◌∙◌}
-use native.Mathlib.Omega.{arith}
-use borrow.Author.Rules.{rules}
+use mathlib.Core.Path.{◌≡◌}
 use Rattle.picture.specs.Surfaces.{picture_of, chain_to}
-use Rattle.picture.proofs.Chains.{chain-none}
-use Rattle.crn_formats.proofs.Limited.{limited}
-use Rattle.picture.proofs.Bytes.{distance_so, chain-after, sum-small}
 use Rattle.picture.proofs.sizes.chain_bytes.Given as goal
 
 abbrev pub invariant-loop-level : goal.invariant-loop-level

@@ -1,5 +1,5 @@
 -- Arm by arm. Assumes nothing.
-use mathlib.Core.Path.{◌≡◌, sym}
+use mathlib.Core.Path.{sym}
 use mathlib.Core.Logic.{◌⊎◌, ⊎_elim, inl, inr}
 use Rattle.crn_format.specs.Header.{kind_of}
 use Rattle.picture.proofs.Out.{not-out}

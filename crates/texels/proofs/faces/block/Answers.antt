@@ -2,7 +2,6 @@
 use native.Mathlib.Omega.{arith}
 use Rattle.crn_format.specs.Header.{kind_of, block_bytes}
 use Rattle.texels.proofs.Drawing.{agreed, block-there, block-agrees, few}
-use borrow.Author.Rules.{rules}
 use Rattle.texels.proofs.faces.block.Goals as goal
 
 pub overflow_mul-y : goal.overflow_mul-y
@@ -13,8 +12,11 @@ overflow_add-y c = omega (arith, few c.requires.room c.requires.block)
 
 pub block_texels-r-requires : goal.block_texels-r-requires
 block_texels-r-requires c =
-    record { format_known = c.requires.given.format-known; block_in = block-there c.requires.block (block_bytes (kind_of c.args.format))
-        c.requires.given.all }
+    record {
+      format_known = c.requires.given.format-known;
+      block_in = block-there c.requires.block (block_bytes (kind_of c.args.format))
+          c.requires.given.all;
+    }
 
 pub returns : goal.returns
 returns c =

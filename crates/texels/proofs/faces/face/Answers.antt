@@ -1,10 +1,7 @@
-use Prim.Native.Nat.{◌-◌, ◌≤◌}
+use Prim.Native.Nat.{◌-◌}
 use mathlib.Core.Path.{◌≡◌}
 use native.Mathlib.Omega.{arith}
 use Rattle.crn_format.specs.Grid.{blocks}
-use Rattle.crn_format.specs.Header.{kind_of}
-use Rattle.bcn_format.specs.Picture.{rgba}
-use Rattle.texels.specs.Sheet.{Drawn, first}
 use Rattle.texels.proofs.Drawing.{skipped, line-more}
 use Rattle.texels.proofs.faces.face.Goals as goal
 
@@ -21,17 +18,16 @@ line-requires c =
 pub overflow_add-y : goal.overflow_add-y
 overflow_add-y c =
     omega (
-  arith,
-  c.loop-y-test.true,
-  c.requires.room.few_rows,
-)
+      arith,
+      c.loop-y-test.true,
+      c.requires.room.few_rows,
+    )
 
 pub loop-y-smaller : goal.loop-y-smaller
 loop-y-smaller c = omega (arith, c.loop-y-test.true)
 
 pub loop-y-preserved : goal.loop-y-preserved
-loop-y-preserved c =
-    (
+loop-y-preserved c = (
   omega (arith, c.loop-y-test.true),
   line-more
       c.requires.room.narrow

@@ -1,12 +1,9 @@
 -- The rows of blocks before y are drawn.
 use Prim.Native.Nat.{◌-◌, ◌≤◌}
-use mathlib.Core.Path.{◌≡◌}
-use native.Mathlib.Omega.{arith}
 use Rattle.crn_format.specs.Grid.{blocks}
 use Rattle.crn_format.specs.Header.{kind_of}
 use Rattle.bcn_format.specs.Picture.{rgba}
 use Rattle.texels.specs.Sheet.{Drawn, first}
-use Rattle.texels.proofs.Drawing.{skipped, line-more}
 use Rattle.texels.proofs.faces.face.Given as goal
 
 abbrev pub invariant-loop-y : goal.invariant-loop-y

@@ -1,6 +1,5 @@
 -- Both sides' tests. Assumes nothing.
 use mathlib.Core.Path.{refl}
-use borrow.Author.Rules.{rules}
 use Rattle.texels.proofs.faces.lies_within.Goals as goal
 
 pub returns : goal.returns

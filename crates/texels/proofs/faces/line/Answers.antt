@@ -1,8 +1,5 @@
-use Prim.Native.Nat.{◌-◌, ◌≤◌}
+use Prim.Native.Nat.{◌-◌}
 use native.Mathlib.Omega.{arith}
-use Rattle.crn_format.specs.Header.{kind_of}
-use Rattle.bcn_format.specs.Picture.{rgba}
-use Rattle.texels.specs.Sheet.{Drawn, first}
 use Rattle.texels.proofs.Drawing.{skipped, block_more, line-whole}
 use Rattle.texels.proofs.faces.line.Goals as goal
 
@@ -14,23 +11,25 @@ loop-x-init c = (omega arith, skipped _ (λ x y at from to. omega arith))
 
 pub block-requires : goal.block-requires
 block-requires c =
-    record { room = rw c.loop-x.invariant.1.long c.requires.room; block = record { column = c.loop-x-test.true; row = c.requires.y_in };
-        given = c.requires.given }
+    record {
+      room = rw c.loop-x.invariant.1.long c.requires.room;
+      block = record { column = c.loop-x-test.true; row = c.requires.y_in };
+      given = c.requires.given;
+    }
 
 pub overflow_add-x : goal.overflow_add-x
 overflow_add-x c =
     omega (
-  arith,
-  c.loop-x-test.true,
-  c.requires.room.few_columns,
-)
+      arith,
+      c.loop-x-test.true,
+      c.requires.room.few_columns,
+    )
 
 pub loop-x-smaller : goal.loop-x-smaller
 loop-x-smaller c = omega (arith, c.loop-x-test.true)
 
 pub loop-x-preserved : goal.loop-x-preserved
-loop-x-preserved c =
-    (
+loop-x-preserved c = (
   omega (arith, c.loop-x-test.true),
   block_more
       c.requires.room.narrow

@@ -1,10 +1,8 @@
 -- The blocks of the row before x are drawn.
 use Prim.Native.Nat.{◌-◌, ◌≤◌}
-use native.Mathlib.Omega.{arith}
 use Rattle.crn_format.specs.Header.{kind_of}
 use Rattle.bcn_format.specs.Picture.{rgba}
 use Rattle.texels.specs.Sheet.{Drawn, first}
-use Rattle.texels.proofs.Drawing.{skipped, block_more, line-whole}
 use Rattle.texels.proofs.faces.line.Given as goal
 
 abbrev pub invariant-loop-x : goal.invariant-loop-x

@@ -4,7 +4,6 @@ use mathlib.Core.Path.{sym, ◌∙◌}
 use lib.Dec.{leb}
 use borrow.Author.Tests.{leb-true}
 use Rattle.crn_format.proofs.Choices.{both_hold}
-use borrow.Author.Rules.{rules}
 use Rattle.texels.proofs.faces.put_block.Goals as goal
 
 pub put_whole-requires : goal.put_whole-requires

@@ -2,7 +2,6 @@
 use native.Mathlib.Omega.{arith}
 use Rattle.bcn_rows.specs.Rows.{row_of}
 use Rattle.texels.proofs.Drawing.{part_of, part-first, first-row, next_row, ended}
-use borrow.Author.Rules.{rules}
 use Rattle.texels.proofs.faces.put_edge.Goals as goal
 
 pub put_stretch-requires : goal.put_stretch-requires
@@ -17,9 +16,12 @@ returns-then-rows-lt2 c =
 
 pub put_stretch-requires-2 : goal.put_stretch-requires-2
 put_stretch-requires-2 c =
-    record { room = rw c.put_stretch.ensures.long c.requires.room; part = part_of c.requires.block
+    record {
+      room = rw c.put_stretch.ensures.long c.requires.room;
+      part = part_of c.requires.block
           c.side_left-columns.ensures
-          c.side_left-rows.ensures c.if-rows-lt2.false }
+          c.side_left-rows.ensures c.if-rows-lt2.false;
+    }
 
 pub returns-then-rows-lt3 : goal.returns-then-rows-lt3
 unfolding row_of
@@ -33,10 +35,13 @@ returns-then-rows-lt3 c =
 
 pub put_stretch-requires-3 : goal.put_stretch-requires-3
 put_stretch-requires-3 c =
-    record { room = rw (
+    record {
+      room = rw (
         c.put_stretch-2.ensures.long,
         c.put_stretch.ensures.long,
-      ) c.requires.room; part = part_of c.requires.block c.side_left-columns.ensures c.side_left-rows.ensures c.if-rows-lt3.false }
+      ) c.requires.room;
+      part = part_of c.requires.block c.side_left-columns.ensures c.side_left-rows.ensures c.if-rows-lt3.false;
+    }
 
 pub returns-then-rows-lt4 : goal.returns-then-rows-lt4
 unfolding row_of
@@ -51,11 +56,14 @@ returns-then-rows-lt4 c =
 
 pub put_stretch-requires-4 : goal.put_stretch-requires-4
 put_stretch-requires-4 c =
-    record { room = rw (
+    record {
+      room = rw (
         c.put_stretch-3.ensures.long,
         c.put_stretch-2.ensures.long,
         c.put_stretch.ensures.long,
-      ) c.requires.room; part = part_of c.requires.block c.side_left-columns.ensures c.side_left-rows.ensures c.if-rows-lt4.false }
+      ) c.requires.room;
+      part = part_of c.requires.block c.side_left-columns.ensures c.side_left-rows.ensures c.if-rows-lt4.false;
+    }
 
 pub returns : goal.returns
 unfolding row_of

@@ -2,7 +2,6 @@
 use native.Mathlib.Omega.{arith}
 use Rattle.bcn_rows.specs.Rows.{row_of}
 use Rattle.texels.proofs.Drawing.{whole-block, whole_row, whole-first, first-row, next_row}
-use borrow.Author.Rules.{rules}
 use Rattle.texels.proofs.faces.put_whole.Goals as goal
 
 pub put_stretch-requires : goal.put_stretch-requires
@@ -11,23 +10,32 @@ put_stretch-requires c =
 
 pub put_stretch-requires-2 : goal.put_stretch-requires-2
 put_stretch-requires-2 c =
-    record { room = rw c.put_stretch.ensures.long c.requires.room; part = whole_row c.args.s c.args.x c.args.y c.requires.x_whole
-        c.requires.y_whole 1 (omega arith) }
+    record {
+      room = rw c.put_stretch.ensures.long c.requires.room;
+      part = whole_row c.args.s c.args.x c.args.y c.requires.x_whole
+          c.requires.y_whole 1 (omega arith);
+    }
 
 pub put_stretch-requires-3 : goal.put_stretch-requires-3
 put_stretch-requires-3 c =
-    record { room = rw (
+    record {
+      room = rw (
         c.put_stretch-2.ensures.long,
         c.put_stretch.ensures.long,
-      ) c.requires.room; part = whole_row c.args.s c.args.x c.args.y c.requires.x_whole c.requires.y_whole 2 (omega arith) }
+      ) c.requires.room;
+      part = whole_row c.args.s c.args.x c.args.y c.requires.x_whole c.requires.y_whole 2 (omega arith);
+    }
 
 pub put_stretch-requires-4 : goal.put_stretch-requires-4
 put_stretch-requires-4 c =
-    record { room = rw (
+    record {
+      room = rw (
         c.put_stretch-3.ensures.long,
         c.put_stretch-2.ensures.long,
         c.put_stretch.ensures.long,
-      ) c.requires.room; part = whole_row c.args.s c.args.x c.args.y c.requires.x_whole c.requires.y_whole 3 (omega arith) }
+      ) c.requires.room;
+      part = whole_row c.args.s c.args.x c.args.y c.requires.x_whole c.requires.y_whole 3 (omega arith);
+    }
 
 pub returns : goal.returns
 unfolding row_of
