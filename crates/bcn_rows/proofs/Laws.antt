@@ -63,7 +63,8 @@ module _ (r : Row) where
 
   -- ---- a row's first texel put, and the next one where n are
 
-  pub first-texel : (d : List ℕ) {h : List ℕ} (at : ℕ) {v : ℕ} → v ≡ texel_of r 0 → h ≡ sets d at (little 4 v) → h ≡ sets d at (row_bytes r 1)
+  pub first-texel : (d : List ℕ) {h : List ℕ} (at : ℕ) {v : ℕ} → v ≡ texel_of r 0 → h ≡ sets d at (little 4 v) → h ≡ sets d at
+      (row_bytes r 1)
   first-texel d at is put = rw (more_bytes 0 (omega arith), ← is) put
 
   pub next-texel : (d : List ℕ) {e h : List ℕ} (at n : ℕ) {v : ℕ} → n < 4 → e ≡ sets d at (row_bytes r n) → v ≡ texel_of r n

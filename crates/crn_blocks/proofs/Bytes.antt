@@ -57,7 +57,8 @@ module _ (g : Grid) (block : ℕ → ℕ → ℕ → List ℕ) where
   pub row-length : (f y n : ℕ) (d : List ℕ) → length (row_painted g block f y n d) ≡ length d
   unfolding row_painted
   row-length f y n d =
-      left_alone (λ m. length (row_painted g block f y m d)) n (λ m _. length-sets (row_painted g block f y m d) (place_of g f m y) (block f m y))
+      left_alone (λ m. length (row_painted g block f y m d)) n (λ m _. length-sets (row_painted g block f y m d) (place_of g f m y)
+      (block f m y))
 
   pub face-length : (f n : ℕ) (d : List ℕ) → length (face_painted g block f n d) ≡ length d
   unfolding face_painted
@@ -73,7 +74,8 @@ Sized g block = (f x y : ℕ) → In g f x y → length (block f x y) ≡ g.byte
 
 module _ {g : Grid} (block : ℕ → ℕ → ℕ → List ℕ) (sized : Sized g block) where
   -- a byte that is in none of the blocks that are painted is as before
-  block-kept : {f x y : ℕ} (d : List ℕ) (k : ℕ) → In g f x y → (Within g f x y k → ⊥) → get_or (sets d (place_of g f x y) (block f x y)) k 0 ≡ get_or d k 0
+  block-kept : {f x y : ℕ} (d : List ℕ) (k : ℕ) → In g f x y → (Within g f x y k → ⊥) → get_or (sets d (place_of g f x y) (block f x y)) k 0
+      ≡ get_or d k 0
   block-kept {f} {x} {y} d k at out =
       sets-out (block f x y) d (place_of g f x y) k
       (beside (place_of g f x y) (length (block f x y)) k (λ from to. out (record { starts = from; ends = omega (arith, sized f x y at) })))
@@ -83,13 +85,15 @@ module _ {g : Grid} (block : ℕ → ℕ → ℕ → List ℕ) (sized : Sized g 
   unfolding row_painted
   row_kept f y d k hf hy out =
       left_alone (λ x. get_or (row_painted g block f y x d) k 0) g.columns
-      (λ x hx. let at : In g f x y = record { face = hf; column = hx; row = hy } in block-kept (row_painted g block f y x d) k at (out x at))
+      (λ x hx. let at : In g f x y = record { face = hf; column = hx; row = hy } in block-kept (row_painted g block f y x d) k at
+      (out x at))
 
   face-kept : (f : ℕ) (d : List ℕ) (k : ℕ) → f < g.faces → ((x y : ℕ) → In g f x y → Within g f x y k → ⊥)
       → get_or (face_painted g block f g.rows d) k 0 ≡ get_or d k 0
   unfolding face_painted
   face-kept f d k hf out =
-      left_alone (λ y. get_or (face_painted g block f y d) k 0) g.rows (λ y hy. row_kept f y (face_painted g block f y d) k hf hy (λ x. out x y))
+      left_alone (λ y. get_or (face_painted g block f y d) k 0) g.rows
+      (λ y hy. row_kept f y (face_painted g block f y d) k hf hy (λ x. out x y))
 
   pub kept : (d : List ℕ) (k : ℕ) → Free g k → get_or (painted g block g.faces d) k 0 ≡ get_or d k 0
   unfolding painted
@@ -101,7 +105,8 @@ module _ {g : Grid} (block : ℕ → ℕ → ℕ → List ℕ) (sized : Sized g 
     same : {f' x' y' : ℕ} → In g f' x' y' → Within g f' x' y' (place_of g f x y + i) → Same f x y f' x' y'
     same at' w = apart room at at' (record { starts = omega arith; ends = omega arith }) w
 
-    row-drawn : (d : List ℕ) → length d ≡ n → get_or (row_painted g block f y g.columns d) (place_of g f x y + i) 0 ≡ get_or (block f x y) i 0
+    row-drawn : (d : List ℕ) → length d ≡ n → get_or (row_painted g block f y g.columns d) (place_of g f x y + i) 0 ≡ get_or (block f x y) i
+        0
     unfolding row_painted
     row-drawn d long =
         let l : Lies g f x y n = lies room at in

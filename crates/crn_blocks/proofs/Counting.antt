@@ -40,7 +40,8 @@ module _ {g : Grid} (d : List ℕ) {n f x y : ℕ} (room : Room g n) (at : In g 
       let next : place_of g f x y + 2 + 1 ≡ place_of g f x y + 3 = omega arith in
       rw (standing-at 2 (omega arith), standing-at 3 (omega arith), next)
 
-  next : row_cutouts (standing g d) f y (x + 1) ≡ row_cutouts (standing g d) f y x + pick (ltb (pair_at d (place_of g f x y)) (pair_at d (place_of g f x y + 2))) 1 0
+  next : row_cutouts (standing g d) f y (x + 1) ≡ row_cutouts (standing g d) f y x + pick
+      (ltb (pair_at d (place_of g f x y)) (pair_at d (place_of g f x y + 2))) 1 0
   unfolding row_cutouts
   next = rw (add-one, first_word, second_word)
 

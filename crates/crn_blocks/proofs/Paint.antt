@@ -35,7 +35,8 @@ module _ {g : Grid} {value : ℕ → List ℕ} where
   start = none (λ f x y at lo hi. omega arith)
 
   -- one painting after the other
-  pub then : {n a b c : ℕ} {d e h : List ℕ} → Room g n → a ≤ b → b ≤ c → Painted g value a b d e → Painted g value b c e h → Painted g value a c d h
+  pub then : {n a b c : ℕ} {d e h : List ℕ} → Room g n → a ≤ b → b ≤ c → Painted g value a b d e → Painted g value b c e h → Painted g value
+      a c d h
   then {n} {a} {b} {c} {d} {e} {h} room ab bc p q =
       record {
         long = q.long ∙ p.long;
@@ -45,7 +46,8 @@ module _ {g : Grid} {value : ℕ → List ℕ} where
             (λ ge. q.drawn f x y i at i8 ge hi)
             (below_or (turn g f x y) b);
         kept = λ k untold.
-            q.kept k (λ f x y at lo hi w. untold f x y at (omega arith) hi w) ∙ p.kept k (λ f x y at lo hi w. untold f x y at lo (omega arith) w);
+            q.kept k (λ f x y at lo hi w. untold f x y at (omega arith) hi w) ∙ p.kept k
+            (λ f x y at lo hi w. untold f x y at lo (omega arith) w);
       }
     where
       early : (f x y i : ℕ) → In g f x y → i < g.bytes → turn g f x y < b → (f' x' y' : ℕ) → In g f' x' y'
@@ -72,7 +74,8 @@ module _ {g : Grid} {value : ℕ → List ℕ} where
       record {
         long = length-sets d (place_of g f x y) bs;
         drawn = λ f' x' y' i at' i8 lo hi.
-            let s : Same f' x' y' f x y = turn_tells g f' x' y' f x y (omega (arith, at'.column)) (omega (arith, at'.row)) (omega (arith, at.column)) (omega (arith, at.row)) (omega arith) in
+            let s : Same f' x' y' f x y = turn_tells g f' x' y' f x y (omega (arith, at'.column)) (omega (arith, at'.row))
+            (omega (arith, at.column)) (omega (arith, at.row)) (omega arith) in
             let e1 : f' ≡ f = s.face in
             let e2 : x' ≡ x = s.column in
             let e3 : y' ≡ y = s.row in
@@ -83,29 +86,34 @@ module _ {g : Grid} {value : ℕ → List ℕ} where
             ∙ ap (λ (l : List ℕ). get_or l i 0) (is ∙ ap value (sym o));
         kept = λ k untold.
             sets-out bs d (place_of g f x y) k
-            (beside (place_of g f x y) (length bs) k (λ from to. untold f x y at (omega arith) (omega arith) (record { starts = from; ends = omega arith })));
+            (beside (place_of g f x y) (length bs) k (λ from to. untold f x y at (omega arith) (omega arith)
+            (record { starts = from; ends = omega arith })));
       }
     where
       fits : place_of g f x y + length bs ≤ length d
       fits = let l = lies room at in omega arith
 
   -- a position of a covering chunk that lies beyond the grid
-  pub nothing : {d : List ℕ} (f x y : ℕ) → Covered g f (x / 2) (y / 2) → (In g f x y → ⊥) → Painted g value (turn g f x y) (turn g f x y + 1) d d
+  pub nothing : {d : List ℕ} (f x y : ℕ) → Covered g f (x / 2) (y / 2) → (In g f x y → ⊥) → Painted g value (turn g f x y)
+      (turn g f x y + 1) d d
   nothing {d} f x y in-chunk beyond = none told
     where
       told : (f' x' y' : ℕ) → In g f' x' y' → turn g f x y ≤ turn g f' x' y' → turn g f' x' y' < turn g f x y + 1 → ⊥
       told f' x' y' at' lo hi =
-          let s : Same f' x' y' f x y = turn_tells g f' x' y' f x y (omega (arith, at'.column)) (omega (arith, at'.row)) in-chunk.column in-chunk.row (omega arith) in
+          let s : Same f' x' y' f x y = turn_tells g f' x' y' f x y (omega (arith, at'.column)) (omega (arith, at'.row)) in-chunk.column
+          in-chunk.row (omega arith) in
           beyond (record { face = in-chunk.face; column = omega (arith, s.column, at'.column); row = omega (arith, s.row, at'.row) })
 
   -- a position of a chunk that is one of the grid
   pub put_in : {d e : List ℕ} (f cx cy q : ℕ) {at : ℕ} {bs : List ℕ} → Room g (length d) → q < 4 → In g f (2 * cx + q % 2) (2 * cy + q / 2)
-      → at ≡ place_of g f (2 * cx + q % 2) (2 * cy + q / 2) → e ≡ sets d at bs → bs ≡ value (4 * chunk_number g f cx cy + q) → length bs ≡ g.bytes
+      → at ≡ place_of g f (2 * cx + q % 2) (2 * cy + q / 2) → e ≡ sets d at bs → bs ≡ value (4 * chunk_number g f cx cy + q) → length bs ≡
+      g.bytes
       → Painted g value (4 * chunk_number g f cx cy + q) (4 * chunk_number g f cx cy + q + 1) d e
   put_in {d} {e} f cx cy q {at} {bs} room four here is put of long =
       let t = turn-here g f cx cy q four in
       subst (λ (k : ℕ). Painted g value k (k + 1) d e) t
-      (subst (λ (l : List ℕ). Painted g value (turn g f (2 * cx + q % 2) (2 * cy + q / 2)) (turn g f (2 * cx + q % 2) (2 * cy + q / 2) + 1) d l)
+      (subst (λ (l : List ℕ). Painted g value (turn g f (2 * cx + q % 2) (2 * cy + q / 2)) (turn g f (2 * cx + q % 2) (2 * cy + q / 2) + 1)
+      d l)
       (sym (put ∙ ap (λ (k : ℕ). sets d k bs) is))
       (one f (2 * cx + q % 2) (2 * cy + q / 2) bs room here (of ∙ ap value (sym t)) long))
 
@@ -113,5 +121,7 @@ module _ {g : Grid} {value : ℕ → List ℕ} where
   pub skipped : {d : List ℕ} (f cx cy q : ℕ) → Covered g f cx cy → q < 4 → (In g f (2 * cx + q % 2) (2 * cy + q / 2) → ⊥)
       → Painted g value (4 * chunk_number g f cx cy + q) (4 * chunk_number g f cx cy + q + 1) d d
   skipped {d} f cx cy q in-chunk four beyond =
-      let covered : Covered g f ((2 * cx + q % 2) / 2) ((2 * cy + q / 2) / 2) = record { face = in-chunk.face; column = omega (arith, in-chunk.column); row = omega (arith, in-chunk.row) } in
-      subst (λ (k : ℕ). Painted g value k (k + 1) d d) (turn-here g f cx cy q four) (nothing f (2 * cx + q % 2) (2 * cy + q / 2) covered beyond)
+      let covered : Covered g f ((2 * cx + q % 2) / 2) ((2 * cy + q / 2) / 2) = record
+      { face = in-chunk.face; column = omega (arith, in-chunk.column); row = omega (arith, in-chunk.row) } in
+      subst (λ (k : ℕ). Painted g value k (k + 1) d d) (turn-here g f cx cy q four)
+      (nothing f (2 * cx + q % 2) (2 * cy + q / 2) covered beyond)

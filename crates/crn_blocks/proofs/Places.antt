@@ -117,13 +117,15 @@ module _ {g : Grid} {n f x y k : ℕ} (room : Room g n) (at : In g f x y) (w : W
 
   column-told : x ≡ columnAt g k
   column-told =
-      slot g.bytes x (k - faceAt g k * g.distance - row_at g k * g.pitch) (omega (arith, face-start, row-start)) (omega (arith, face-start, row-start))
+      slot g.bytes x (k - faceAt g k * g.distance - row_at g k * g.pitch) (omega (arith, face-start, row-start))
+      (omega (arith, face-start, row-start))
 
   pub told : Same f x y (faceAt g k) (columnAt g k) (row_at g k)
   told = record { face = face-told; column = column-told; row = row_told }
 
 -- two blocks of the grid that share a byte are one
-pub apart : {g : Grid} {n f x y f' x' y' k : ℕ} → Room g n → In g f x y → In g f' x' y' → Within g f x y k → Within g f' x' y' k → Same f x y f' x' y'
+pub apart : {g : Grid} {n f x y f' x' y' k : ℕ} → Room g n → In g f x y → In g f' x' y' → Within g f x y k → Within g f' x' y' k → Same f x
+    y f' x' y'
 apart room at at' w w' =
     let s = told room at w in
     let s' = told room at' w' in

@@ -10,7 +10,8 @@ use Rattle.crn_format.specs.declared.Grid.{Grid}
 use Rattle.crn_blocks.proofs.Places.{sets-append}
 
 -- eight bytes, and eight more after them
-pub put_both : (d : List ℕ) {e h bs : List ℕ} (at lo hi : ℕ) → e ≡ sets d at (little 8 lo) → h ≡ sets e (at + 8) (little 8 hi) → little 8 lo ++ little 8 hi ≡ bs
+pub put_both : (d : List ℕ) {e h bs : List ℕ} (at lo hi : ℕ) → e ≡ sets d at (little 8 lo) → h ≡ sets e (at + 8) (little 8 hi) → little 8 lo
+    ++ little 8 hi ≡ bs
     → h ≡ sets d at bs
 unfolding little
 put_both d at lo hi one two is =

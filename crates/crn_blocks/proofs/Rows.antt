@@ -19,7 +19,8 @@ use Rattle.crn_blocks.proofs.Turns.{parity, side, side_even, side_odd, side-belo
 pub chunk-number-right : (g : Grid) (f k cy : ℕ) → cy % 2 ≡ 0 → chunk_number g f k cy ≡ row_start g f cy + k
 chunk-number-right g f k cy even = chunk-at g f k cy k (side_even g k cy even)
 
-pub chunk-number-left : (g : Grid) (f k cy : ℕ) → cy % 2 ≡ 1 → k < chunk_columns g → chunk_number g f (chunk_columns g - 1 - k) cy ≡ row_start g f cy + k
+pub chunk-number-left : (g : Grid) (f k cy : ℕ) → cy % 2 ≡ 1 → k < chunk_columns g → chunk_number g f (chunk_columns g - 1 - k) cy ≡
+    row_start g f cy + k
 chunk-number-left g f k cy odd h = chunk-at g f (chunk_columns g - 1 - k) cy k (side_odd g (chunk_columns g - 1 - k) cy odd ∙ omega arith)
 
 -- the first row, the next row, the next face's first, and past the last face
@@ -30,7 +31,13 @@ pub row_next : (g : Grid) (f cy : ℕ) → row_start g f (cy + 1) ≡ row_start 
 row_next g f cy = omega (arith, add-mul cy 1 (chunk_columns g), one-mul (chunk_columns g))
 
 pub face-next : (g : Grid) (f : ℕ) → row_start g f (chunk_rows g) ≡ row_start g (f + 1) 0
-face-next g f = omega (arith, add-mul f 1 (chunk_rows g * chunk_columns g), one-mul (chunk_rows g * chunk_columns g), zero-mul (chunk_columns g))
+face-next g f = omega (
+  arith,
+  add-mul f 1 (chunk_rows g * chunk_columns g),
+  one-mul (chunk_rows g * chunk_columns g),
+  zero-mul
+      (chunk_columns g),
+)
 
 pub face-last : (g : Grid) → row_start g g.faces 0 ≡ chunk_count g
 face-last g = omega (arith, zero-mul (chunk_columns g))
@@ -53,14 +60,17 @@ module _ (m n f y k : ℕ) (hy : y < n) (hk : k < m) where
 
   line : (f * (n * m) + y * m + k) / m % n ≡ y
   line =
-      rw (flat, mul-add-div_right {m = m} (omega arith) (f * n + y) k, div-eq_of_lt hk, add-zero) (mul-add-mod_self_right f n y ∙ mod-eq_of_lt hy)
+      rw (flat, mul-add-div_right {m = m} (omega arith) (f * n + y) k, div-eq_of_lt hk, add-zero)
+      (mul-add-mod_self_right f n y ∙ mod-eq_of_lt hy)
 
 module _ (g : Grid) (f cx cy : ℕ) (at : Covered g f cx cy) where
   pub row-of : row_of g (chunk_number g f cx cy) ≡ cy
-  row-of = rw (chunk-at g f cx cy (side g cx cy) refl) (line (chunk_columns g) (chunk_rows g) f cy (side g cx cy) at.row (side-below g cx cy at.column))
+  row-of = rw (chunk-at g f cx cy (side g cx cy) refl) (line (chunk_columns g) (chunk_rows g) f cy (side g cx cy) at.row
+      (side-below g cx cy at.column))
 
   before : chunk_number g f cx cy % chunk_columns g ≡ side g cx cy
-  before = rw (chunk-at g f cx cy (side g cx cy) refl) (rest (chunk_columns g) (chunk_rows g) f cy (side g cx cy) at.row (side-below g cx cy at.column))
+  before = rw (chunk-at g f cx cy (side g cx cy) refl) (rest (chunk_columns g) (chunk_rows g) f cy (side g cx cy) at.row
+      (side-below g cx cy at.column))
 
   pub column-of : column_of g (chunk_number g f cx cy) ≡ cx
   column-of =

@@ -47,14 +47,16 @@ chunk_tells : (g : Grid) (f cx cy f' cx' cy' : ℕ) → cx < chunk_columns g →
 chunk_tells g f cx cy f' cx' cy' hx hy hx' hy' same =
     let s = side-below g cx cy hx in
     let s' = side-below g cx' cy' hx' in
-    let all : row_start g f cy + side g cx cy ≡ row_start g f' cy' + side g cx' cy' = sym (chunk-at g f cx cy _ refl) ∙ same ∙ chunk-at g f' cx' cy' _ refl in
+    let all : row_start g f cy + side g cx cy ≡ row_start g f' cy' + side g cx' cy' = sym (chunk-at g f cx cy _ refl) ∙ same ∙ chunk-at g f'
+    cx' cy' _ refl in
     let fs = place (chunk_rows g * chunk_columns g) f f' (cy * chunk_columns g + side g cx cy) (cy' * chunk_columns g + side g cx' cy')
     (omega (arith, further (chunk_columns g) hy)) (omega (arith, further (chunk_columns g) hy')) (omega arith) in
     let ys = place (chunk_columns g) cy cy' (side g cx cy) (side g cx' cy') s s' fs.1 in
     record { face = fs.0; column = side_tells g cx cx' cy hx hx' (ys.1 ∙ ap (side g cx') (sym ys.0)); row = ys.0 }
 
 -- a position's turn is its own
-pub turn_tells : (g : Grid) (f x y f' x' y' : ℕ) → x / 2 < chunk_columns g → y / 2 < chunk_rows g → x' / 2 < chunk_columns g → y' / 2 < chunk_rows g
+pub turn_tells : (g : Grid) (f x y f' x' y' : ℕ) → x / 2 < chunk_columns g → y / 2 < chunk_rows g → x' / 2 < chunk_columns g → y' / 2 <
+    chunk_rows g
     → turn g f x y ≡ turn g f' x' y' → Same f x y f' x' y'
 unfolding turn
 turn_tells g f x y f' x' y' hx hy hx' hy' same =
@@ -66,14 +68,23 @@ turn_tells g f x y f' x' y' hx hy hx' hy' same =
 -- the four positions of a chunk have its four turns
 pub turn-of : (g : Grid) (f x y cx cy : ℕ) → x / 2 ≡ cx → y / 2 ≡ cy → turn g f x y ≡ 4 * chunk_number g f cx cy + position_of x y
 unfolding turn
-turn-of g f x y cx cy ex ey = ap (λ (t : ℕ). 4 * t + position_of x y) (ap (λ (t : ℕ). chunk_number g f t (y / 2)) ex ∙ ap (chunk_number g f cx) ey)
+turn-of g f x y cx cy ex ey = ap (λ (t : ℕ). 4 * t + position_of x y)
+    (ap (λ (t : ℕ). chunk_number g f t (y / 2)) ex ∙ ap (chunk_number g f cx) ey)
 
 -- every chunk that covers the grid has its number before the end, and every block its turn
 pub chunk-below : (g : Grid) (f cx cy : ℕ) → Covered g f cx cy → chunk_number g f cx cy < chunk_count g
 chunk-below g f cx cy at =
-    omega (arith, chunk-at g f cx cy _ refl, side-below g cx cy at.column, further (chunk_columns g) at.row, further (chunk_rows g * chunk_columns g) at.face)
+    omega (
+      arith,
+      chunk-at g f cx cy _ refl,
+      side-below g cx cy at.column,
+      further (chunk_columns g) at.row,
+      further
+          (chunk_rows g * chunk_columns g) at.face,
+    )
 
 pub turn_below : (g : Grid) (f x y : ℕ) → In g f x y → turn g f x y < 4 * chunk_count g
 turn_below g f x y at =
-    let in-chunk : Covered g f (x / 2) (y / 2) = record { face = at.face; column = omega (arith, at.column); row = omega (arith, at.row) } in
+    let in-chunk : Covered g f (x / 2) (y / 2) = record { face = at.face; column = omega (arith, at.column); row = omega (arith, at.row) }
+    in
     omega (arith, turn-of g f x y (x / 2) (y / 2) refl refl, chunk-below g f (x / 2) (y / 2) in-chunk)

@@ -45,7 +45,8 @@ module _ {g : Grid} (d : List ℕ) (room : Room g (length d)) (block : ℕ → �
           (rw length-drop (omega (arith, painted-length g block g.faces d)))
 
 -- all turns: the picture
-pub whole : {g : Grid} {value : ℕ → List ℕ} {d e : List ℕ} (block : ℕ → ℕ → ℕ → List ℕ) → Room g (length d) → Painted g value 0 (4 * chunk_count g) d e
+pub whole : {g : Grid} {value : ℕ → List ℕ} {d e : List ℕ} (block : ℕ → ℕ → ℕ → List ℕ) → Room g (length d) → Painted g value 0
+    (4 * chunk_count g) d e
     → ((f x y : ℕ) → In g f x y → (value (turn g f x y) ≡ block f x y) × (length (block f x y) ≡ g.bytes)) → e ≡ painted g block g.faces d
 whole {g} {value} {d} {e} block room p is =
     pictured d room block (λ f x y at. (is f x y at).1) e p.long
@@ -70,17 +71,20 @@ picture_outside {g} {d} block sized = record { long = painted-length g block g.f
 -- ---- only the blocks of the grid count
 
 module _ {g : Grid} (block block' : ℕ → ℕ → ℕ → List ℕ) (same : (f x y : ℕ) → In g f x y → block f x y ≡ block' f x y) where
-  paint-row : (f y x : ℕ) (d : List ℕ) → f < g.faces → y < g.rows → x ≤ g.columns → row_painted g block f y x d ≡ row_painted g block' f y x d
+  paint-row : (f y x : ℕ) (d : List ℕ) → f < g.faces → y < g.rows → x ≤ g.columns → row_painted g block f y x d ≡ row_painted g block' f y x
+      d
   unfolding row_painted
   paint-row f y zero d hf hy hx = refl
   paint-row f y (suc x) d hf hy hx =
-      ap₂ (λ (e bs : List ℕ). sets e (place_of g f x y) bs) (paint-row f y x d hf hy (omega arith)) (same f x y (record { face = hf; column = hx; row = hy }))
+      ap₂ (λ (e bs : List ℕ). sets e (place_of g f x y) bs) (paint-row f y x d hf hy (omega arith))
+      (same f x y (record { face = hf; column = hx; row = hy }))
 
   paint-face : (f y : ℕ) (d : List ℕ) → f < g.faces → y ≤ g.rows → face_painted g block f y d ≡ face_painted g block' f y d
   unfolding face_painted
   paint-face f zero d hf hy = refl
   paint-face f (suc y) d hf hy =
-      paint-row f y g.columns (face_painted g block f y d) hf hy (omega arith) ∙ ap (row_painted g block' f y g.columns) (paint-face f y d hf (omega arith))
+      paint-row f y g.columns (face_painted g block f y d) hf hy (omega arith) ∙ ap (row_painted g block' f y g.columns)
+      (paint-face f y d hf (omega arith))
 
   paint : (f : ℕ) (d : List ℕ) → f ≤ g.faces → painted g block f d ≡ painted g block' f d
   unfolding painted
@@ -94,7 +98,8 @@ module _ {g : Grid} (block block' : ℕ → ℕ → ℕ → List ℕ) (same : (f
   row_same : (f y : ℕ) → f < g.faces → y < g.rows → row_cutouts block f y g.columns ≡ row_cutouts block' f y g.columns
   unfolding row_cutouts
   row_same f y hf hy =
-      alike (row_cutouts block f y) (row_cutouts block' f y) g.columns refl (λ x hx before. rw (same f x y (record { face = hf; column = hx; row = hy }), before))
+      alike (row_cutouts block f y) (row_cutouts block' f y) g.columns refl
+      (λ x hx before. rw (same f x y (record { face = hf; column = hx; row = hy }), before))
 
   face-same : (f : ℕ) → f < g.faces → face_cutouts g block f g.rows ≡ face_cutouts g block' f g.rows
   unfolding face_cutouts

@@ -24,7 +24,8 @@ two_words (suc m) n low high h =
 pub color_words : (ends sels : List ℕ) (e s a b : ℕ) → a ≡ get_or ends e 0 → a < 4294967296 → b ≡ get_or sels s 0
     → Half (color ends sels) e s (a + 4294967296 * b)
 unfolding half
-color_words ends sels e s a b is few is₂ = two_words 4 4 a b few ∙ ap (λ (v : ℕ). little 4 v ++ little 4 b) is ∙ ap (λ (v : ℕ). little 4 (get_or ends e 0) ++ little 4 v) is₂
+color_words ends sels e s a b is few is₂ = two_words 4 4 a b few ∙ ap (λ (v : ℕ). little 4 v ++ little 4 b) is ∙ ap
+    (λ (v : ℕ). little 4 (get_or ends e 0) ++ little 4 v) is₂
 
 pub alpha_words : (ends sels : List ℕ) (e s a b c d r : ℕ) → r ≡ a + 65536 * (b + 65536 * (c + 65536 * d))
     → (a ≡ get_or ends e 0) × (a < 65536) → (b ≡ get_or sels (3 * s) 0) × (b < 65536)
@@ -32,4 +33,13 @@ pub alpha_words : (ends sels : List ℕ) (e s a b c d r : ℕ) → r ≡ a + 655
     → Half (alpha ends sels) e s r
 unfolding half
 alpha_words ends sels e s a b c d r whole ha hb hc hd =
-    rw (whole, two_words 2 6 a (b + 65536 * (c + 65536 * d)) ha.1, two_words 2 4 b (c + 65536 * d) hb.1, two_words 2 2 c d hc.1, ha.0, hb.0, hc.0, hd)
+    rw (
+      whole,
+      two_words 2 6 a (b + 65536 * (c + 65536 * d)) ha.1,
+      two_words 2 4 b (c + 65536 * d) hb.1,
+      two_words 2 2 c d hc.1,
+      ha.0,
+      hb.0,
+      hc.0,
+      hd,
+    )

@@ -3,7 +3,7 @@
 
 ghost use Rattle.std.specs.Prelude.{◌≡◌, ◌⊎◌, ◌+◌, ◌*◌, ◌<◌, ◌≤◌, length, get_or, replicate};
 ghost use Rattle.std.proofs.lemmas.List.Edits.{sets};
-ghost use Rattle.crn_format.specs.Grid.{color, alpha, little, painted, face_painted, row_painted, blank, cutouts as «cutouts_of», face_cutouts, row_cutouts};
+ghost use Rattle.crn_format.specs.Grid.{color, alpha, little, painted, face_painted, row_painted, blank, cutouts as cutouts_of, face_cutouts, row_cutouts};
 ghost use Rattle.crn_blocks.specs.Sheet.{Room, standing};
 ghost use Rattle.crn_blocks.specs.Halves.{Half, Has};
 
@@ -169,7 +169,7 @@ fn cutouts_face(dst: &[u8], g: Grid, face: usize) -> u64
 // How many of the grid's blocks are cut-outs: their first word is below their second.
 pub fn cutouts(dst: &[u8], g: Grid) -> u64
     requires { Room g (length dst.now) }
-    ensures { result ≡ «cutouts_of» g (standing g dst.now) g.faces }
+    ensures { result ≡ cutouts_of g (standing g dst.now) g.faces }
 {
     let mut n = 0;
     let mut face = 0;

@@ -86,7 +86,16 @@ by_four s i x b is =
     let third = rw f at (field_add s (8 * i) 16 8) in
     let fourth = rw g at (field_add s (8 * i) 24 8) in
     exchanged _ _ _ _ x (b i) (b (i + 1)) (b (i + 2)) (b (i + 3)) (is ∙ low-four s i)
-    ∙ omega (arith, second, third, fourth, field-byte s i (b i), field-byte s (i + 1) (b (i + 1)), field-byte s (i + 2) (b (i + 2)), field-byte s (i + 3) (b (i + 3)))
+    ∙ omega (
+      arith,
+      second,
+      third,
+      fourth,
+      field-byte s i (b i),
+      field-byte s (i + 1) (b (i + 1)),
+      field-byte s (i + 2) (b (i + 2)),
+      field-byte s (i + 3) (b (i + 3)),
+    )
 
 pub by_eight : (s : List ℕ) (q : ℕ) → spelled s (8 * q) 64 ≡ spelled s (8 * q) 32 * 4294967296 + spelled s (8 * (q + 4)) 32
 by_eight s q = let e : 8 * q + 32 ≡ 8 * (q + 4) = omega arith in rw e at (field_add s (8 * q) 32 32)
@@ -106,7 +115,8 @@ all-bytes s i k h l m =
     let e : 8 * (k - i) + n ≡ 64 = omega arith in
     let q : 8 * i + 8 * (k - i) ≡ 8 * k = omega arith in
     let z = field_past s (8 * k) n (omega arith) in
-    let w : spelled s (8 * i) 64 ≡ spelled s (8 * i) (8 * (k - i)) * 2 ^ n = omega (arith, rw (e, q) at (field_add s (8 * i) (8 * (k - i)) n), z) in
+    let w : spelled s (8 * i) 64 ≡ spelled s (8 * i) (8 * (k - i)) * 2 ^ n = omega
+    (arith, rw (e, q) at (field_add s (8 * i) (8 * (k - i)) n), z) in
     rw (← w) (mod-eq_of_lt (field_lt s (8 * i) 64))
 
 pub no_byte : (s : List ℕ) (i : ℕ) → 0 ≡ spelled s (8 * i) (8 * (i - i))

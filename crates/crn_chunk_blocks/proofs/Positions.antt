@@ -62,12 +62,14 @@ nth two out (suc (suc zero)) h = refl
 nth two out (suc (suc (suc zero))) h = refl
 nth two out (suc (suc (suc (suc q)))) h = absurd (omega arith)
 
-by_tile : (p : Palettes) (ps : Planes) (e : ℕ) (out : List ℕ) (q : ℕ) → e < 8 → q < 4 → block_with p ps out (tile_at e q) q ≡ block_in p ps e out q
+by_tile : (p : Palettes) (ps : Planes) (e : ℕ) (out : List ℕ) (q : ℕ) → e < 8 → q < 4 → block_with p ps out (tile_at e q) q ≡ block_in p ps
+    e out q
 unfolding block_in block_of chunk_of
 by_tile p ps e out q he hq =
     let is : q % 4 ≡ q = omega arith in
     rw (is, nth ps.two out q hq)
-    (joined ps.two (shade_of p ps.first) (shade_of p ps.second) (take n out) (take n (drop 4 out)) (tile_at e q) (get_or out (8 + q) 0) (get_or out (12 + q) 0)
+    (joined ps.two (shade_of p ps.first) (shade_of p ps.second) (take n out) (take n (drop 4 out)) (tile_at e q) (get_or out (8 + q) 0)
+    (get_or out (12 + q) 0)
     (get_or out (tile_at e q) 0) (get_or out (4 + tile_at e q) 0) (sym (get_or-take n out (tile_at e q) 0 below))
     (sym (get_or-take n (drop 4 out) (tile_at e q) 0 below ∙ get_or-drop 4 out (tile_at e q) 0)))
   where
@@ -78,18 +80,22 @@ by_tile p ps e out q he hq =
     below = tile_below e q he hq
 
 -- the tile is the one that the byte has
-pub by_byte : (p : Palettes) (ps : Planes) (e : ℕ) (out : List ℕ) (byte q : ℕ) → e < 8 → q < 4 → Tiles e byte → block_with p ps out (tile_in byte q) q ≡ block_in p ps e out q
+pub by_byte : (p : Palettes) (ps : Planes) (e : ℕ) (out : List ℕ) (byte q : ℕ) → e < 8 → q < 4 → Tiles e byte → block_with p ps out
+    (tile_in byte q) q ≡ block_in p ps e out q
 by_byte p ps e out byte q he hq tiles = ap (λ (tile : ℕ). block_with p ps out tile q) (tiles.each q hq) ∙ by_tile p ps e out q he hq
 
 -- its halves, as they are put
-module _ (p : Palettes) (ps : Planes) (out : List ℕ) (tile q lo : ℕ) (first : Half (shade_of p ps.first) (get_or out tile 0) (get_or out (8 + q) 0) lo) where
+module _ (p : Palettes) (ps : Planes) (out : List ℕ) (tile q lo : ℕ)
+    (first : Half (shade_of p ps.first) (get_or out tile 0) (get_or out (8 + q) 0) lo) where
   pub of_one : ps.two ≡ false → little 8 lo ≡ block_with p ps out tile q
   of_one single = rw single (first ∙ sym (append-nil (half (shade_of p ps.first) (get_or out tile 0) (get_or out (8 + q) 0))))
 
-  pub of_two : (hi : ℕ) → ps.two ≡ true → Half (shade_of p ps.second) (get_or out (4 + tile) 0) (get_or out (12 + q) 0) hi → little 8 lo ++ little 8 hi ≡ block_with p ps out tile q
+  pub of_two : (hi : ℕ) → ps.two ≡ true → Half (shade_of p ps.second) (get_or out (4 + tile) 0) (get_or out (12 + q) 0) hi → little 8 lo ++
+      little 8 hi ≡ block_with p ps out tile q
   of_two hi double second =
       rw double
-      (ap (λ (l : List ℕ). l ++ little 8 hi) first ∙ ap (λ (l : List ℕ). half (shade_of p ps.first) (get_or out tile 0) (get_or out (8 + q) 0) ++ l) second)
+      (ap (λ (l : List ℕ). l ++ little 8 hi) first ∙ ap (λ (l : List ℕ). half (shade_of p ps.first) (get_or out tile 0)
+      (get_or out (8 + q) 0) ++ l) second)
 
 -- the turn counts by its position alone
 pub same_block : (p : Palettes) (ps : Planes) (e : ℕ) (out : List ℕ) (n q : ℕ) → block_in p ps e out q ≡ block_in p ps e out (4 * n + q)
@@ -137,7 +143,8 @@ module _ (at size k : ℕ) (few : k < 2) (covers : at < (size + 1) / 2) where
   misses true here is one e h = false≢true (sym e)
   misses false here is one e h = one e (omega (arith, ltb-false (2 * at + 1) size (sym is)))
 
-module _ (g : Grid) (f cx cy q : ℕ) (right bottom : Bool) (in-chunk : Covered g f cx cy) (four : q < 4) (is : (right ≡ ltb (2 * cx + 1) g.columns) × (bottom ≡ ltb (2 * cy + 1) g.rows)) where
+module _ (g : Grid) (f cx cy q : ℕ) (right bottom : Bool) (in-chunk : Covered g f cx cy) (four : q < 4)
+    (is : (right ≡ ltb (2 * cx + 1) g.columns) × (bottom ≡ ltb (2 * cy + 1) g.rows)) where
   pub in_grid : ((right || eqb (q % 2) 0) && (bottom || ltb q 2)) ≡ true → In g f (2 * cx + q % 2) (2 * cy + q / 2)
   in_grid e =
       let h = and_hold (right || eqb (q % 2) 0) (bottom || ltb q 2) e in
@@ -150,12 +157,15 @@ module _ (g : Grid) (f cx cy q : ℕ) (right bottom : Bool) (in-chunk : Covered 
   pub off_grid : ((right || eqb (q % 2) 0) && (bottom || ltb q 2)) ≡ false → In g f (2 * cx + q % 2) (2 * cy + q / 2) → ⊥
   off_grid e at =
       ⊎_elim
-      (λ h. misses cx g.columns (q % 2) (omega arith) in-chunk.column right (eqb (q % 2) 0) is.0 (λ z y. eqb-false (q % 2) 0 z y) h at.column)
-      (λ h. misses cy g.rows (q / 2) (omega arith) in-chunk.row bottom (ltb q 2) is.1 (λ z y. let l = ltb-false q 2 z in omega arith) h at.row)
+      (λ h. misses cx g.columns (q % 2) (omega arith) in-chunk.column right (eqb (q % 2) 0) is.0 (λ z y. eqb-false (q % 2) 0 z y) h
+      at.column)
+      (λ h. misses cy g.rows (q / 2) (omega arith) in-chunk.row bottom (ltb q 2) is.1 (λ z y. let l = ltb-false q 2 z in omega arith) h
+      at.row)
       (one_fails (right || eqb (q % 2) 0) (bottom || ltb q 2) e)
 
 -- as the chunk's reading has it
-pub inside_so : (right bottom : Bool) (q : ℕ) → q < 4 → ((right || eqb (q % 2) 0) && (bottom || ltb q 2)) ≡ true → get_or (inside_of right bottom) q true ≡ true
+pub inside_so : (right bottom : Bool) (q : ℕ) → q < 4 → ((right || eqb (q % 2) 0) && (bottom || ltb q 2)) ≡ true → get_or
+    (inside_of right bottom) q true ≡ true
 inside_so right bottom zero h e = refl
 inside_so true bottom (suc zero) h e = refl
 inside_so false bottom (suc zero) h e = e

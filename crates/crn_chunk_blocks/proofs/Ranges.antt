@@ -47,11 +47,13 @@ data Along {A : Type 0} (R : Plane → A → Type 0) : List Plane → List A →
   none : {ps : List Plane} → Along R ps []
   more : {p : Plane} {ps : List Plane} {a : A} {bs : List A} → R p a → Along R ps bs → Along R (p ∷ ps) (a ∷ bs)
 
-in_row : {A : Type 0} {R : Plane → A → Type 0} (two : Bool) {p q : Plane} {a b : A} → Along R (row two p q) (row two a b) → R p a × (two ≡ true → R q b)
+in_row : {A : Type 0} {R : Plane → A → Type 0} (two : Bool) {p q : Plane} {a b : A} → Along R (row two p q) (row two a b) → R p a ×
+    (two ≡ true → R q b)
 in_row true (more h (more g none)) = (h, λ _. g)
 in_row false (more h none) = (h, λ e. absurd (false≢true e))
 
-along_next : {A : Type 0} (R : Plane → A → Type 0) (p : Plane) (ps : List Plane) (m : Reading A) (rest : Reading (List A)) → All (R p) m → All (Along R ps) rest
+along_next : {A : Type 0} (R : Plane → A → Type 0) (p : Plane) (ps : List Plane) (m : Reading A) (rest : Reading (List A)) → All (R p) m →
+    All (Along R ps) rest
     → All (Along R (p ∷ ps)) (next m λ a. next rest λ more. answer (a ∷ more))
 along_next R p ps m rest h g =
     all-next (R p) (Along R (p ∷ ps)) m _ h
@@ -81,7 +83,8 @@ unfolding plane_endpoints
 tiles_in [] n is = all-answer (Along (Tiles n) []) none
 tiles_in (p ∷ ps) n [] = all-answer (Along (Tiles n) (p ∷ ps)) none
 tiles_in (p ∷ ps) n (i ∷ is) =
-    along_next (Tiles n) p ps (endpoint_indices p n i []) (plane_endpoints ps n is) (endpoints-below p n i 0 n [] (omega arith) none) (tiles_in ps n is)
+    along_next (Tiles n) p ps (endpoint_indices p n i []) (plane_endpoints ps n is) (endpoints-below p n i 0 n [] (omega arith) none)
+    (tiles_in ps n is)
 
 -- ---- the selectors at a position, where it lies inside
 
@@ -97,8 +100,10 @@ selector-below : (p : Plane) (inside : Bool) (i : ℕ) → All (Picked inside p)
 unfolding selector_index
 selector-below p inside i =
     all-next Any (Picked inside p) (symbol p.selector_deltas) _ (all_any (symbol p.selector_deltas))
-    (λ d _. all-pick (Picked inside p) (either (ltb (stepped p.selectors i d) p.selectors) (not inside)) (answer (stepped p.selectors i d)) (refuse 14)
-    (λ e. all-answer (Picked inside p) (λ is. ltb-true (stepped p.selectors i d) p.selectors (looked_at inside (ltb (stepped p.selectors i d) p.selectors) e is)))
+    (λ d _. all-pick (Picked inside p) (either (ltb (stepped p.selectors i d) p.selectors) (not inside)) (answer (stepped p.selectors i d))
+    (refuse 14)
+    (λ e. all-answer (Picked inside p) (λ is. ltb-true (stepped p.selectors i d) p.selectors
+    (looked_at inside (ltb (stepped p.selectors i d) p.selectors) e is)))
     (λ _. unfold All in tt))
 
 picked_in : (ps : List Plane) (inside : Bool) (is : List ℕ) → All (Along (Picked inside) ps) (plane_selectors ps inside is)
@@ -106,15 +111,18 @@ unfolding plane_selectors
 picked_in [] inside is = all-answer (Along (Picked inside) []) none
 picked_in (p ∷ ps) inside [] = all-answer (Along (Picked inside) (p ∷ ps)) none
 picked_in (p ∷ ps) inside (i ∷ is) =
-    along_next (Picked inside) p ps (selector_index p inside i) (plane_selectors ps inside is) (selector-below p inside i) (picked_in ps inside is)
+    along_next (Picked inside) p ps (selector_index p inside i) (plane_selectors ps inside is) (selector-below p inside i)
+    (picked_in ps inside is)
 
 -- ---- the positions
 
 data Places (ps : List Plane) : List Bool → List (List ℕ) → Type 0 where
   none : Places ps [] []
-  more : {b : Bool} {bs : List Bool} {r : List ℕ} {rs : List (List ℕ)} → Along (Picked b) ps r → Places ps bs rs → Places ps (b ∷ bs) (r ∷ rs)
+  more : {b : Bool} {bs : List Bool} {r : List ℕ} {rs : List (List ℕ)} → Along (Picked b) ps r → Places ps bs rs → Places ps (b ∷ bs)
+      (r ∷ rs)
 
-last : {ps : List Plane} {b : Bool} {bs : List Bool} {r : List ℕ} {rs : List (List ℕ)} → Places ps bs rs → Along (Picked b) ps r → Places ps (bs ++ (b ∷ [])) (rs ++ (r ∷ []))
+last : {ps : List Plane} {b : Bool} {bs : List Bool} {r : List ℕ} {rs : List (List ℕ)} → Places ps bs rs → Along (Picked b) ps r → Places ps
+    (bs ++ (b ∷ [])) (rs ++ (r ∷ []))
 last none h = more h none
 last (more g rs) h = more g (last rs h)
 
@@ -124,9 +132,11 @@ unfolding position_selectors
 places_in ps before [] is rows h =
     all-answer (Places ps (before ++ [])) (subst (λ (bs : List Bool). Places ps bs rows) (sym (append-nil before)) h)
 places_in ps before (inside ∷ after) is rows h =
-    subst (λ (bs : List Bool). All (Places ps bs) (next (plane_selectors ps inside is) λ js. position_selectors ps after js (rows ++ (js ∷ []))))
+    subst (λ (bs : List Bool). All (Places ps bs) (next (plane_selectors ps inside is) λ js. position_selectors ps after js
+    (rows ++ (js ∷ []))))
     (append_assoc before (inside ∷ []) after)
-    (all-next (Along (Picked inside) ps) (Places ps ((before ++ (inside ∷ [])) ++ after)) (plane_selectors ps inside is) _ (picked_in ps inside is)
+    (all-next (Along (Picked inside) ps) (Places ps ((before ++ (inside ∷ [])) ++ after)) (plane_selectors ps inside is) _
+    (picked_in ps inside is)
     (λ js picked. places_in ps (before ++ (inside ∷ [])) after js (rows ++ (js ∷ [])) (last h picked)))
 
 -- ---- a chunk
@@ -139,7 +149,8 @@ chunk_in : (ls : List ℕ) (ps : List Plane) (inside : List Bool) (r : Running) 
 unfolding chunk
 chunk_in ls ps inside r =
     all-next Any (λ (a : Chunk × Running). InRange ps inside a.0) (encoding ls r.pending) _ (all_any (encoding ls r.pending))
-    (λ e _. all-next (Along (Tiles (get_or tile_counts e.0 0)) ps) (λ (a : Chunk × Running). InRange ps inside a.0) (plane_endpoints ps (get_or tile_counts e.0 0) r.endpoint) _
+    (λ e _. all-next (Along (Tiles (get_or tile_counts e.0 0)) ps) (λ (a : Chunk × Running). InRange ps inside a.0)
+    (plane_endpoints ps (get_or tile_counts e.0 0) r.endpoint) _
     (tiles_in ps (get_or tile_counts e.0 0) r.endpoint)
     (λ t tiles. all-next (Places ps inside) (λ (a : Chunk × Running). InRange ps inside a.0) (position_selectors ps inside r.selector []) _
     (places_in ps [] inside r.selector [] none)
@@ -162,18 +173,21 @@ has : (x : Shade) {m n : ℕ} (e s : ℕ) → Reach x m n → e < m → s < n �
 has (color ends sels) e s reach he hs = (omega arith, omega arith)
 has (alpha ends sels) e s reach he hs = (omega arith, omega arith)
 
-module _ {lookup sorted seg out : List ℕ} {ps : Planes} {right bottom : Bool} {r : Carried} {s : Stream} {a : Chunked} (reads : Reads lookup sorted seg ps right bottom r s out a)
+module _ {lookup sorted seg out : List ℕ} {ps : Planes} {right bottom : Bool} {r : Carried} {s : Stream} {a : Chunked}
+    (reads : Reads lookup sorted seg ps right bottom r s out a)
     {e : ℕ} {n : Carried} {t : Stream} (is : a ≡ Read e n t) where
   -- by every code that the tables decode
   pub read_so : (cs : ℕ → List ℕ) → Coded cs ps lookup sorted
-      → run (source seg) (chunk (cs 0) (planes cs ps) (inside_of right bottom) (running_of ps.two r)) (spending s) ≡ got (chunk_of ps.two e out, running_of ps.two n) (spending t)
+      → run (source seg) (chunk (cs 0) (planes cs ps) (inside_of right bottom) (running_of ps.two r)) (spending s) ≡ got
+      (chunk_of ps.two e out, running_of ps.two n) (spending t)
   read_so cs coded = sym (reads.same cs coded) ∙ ap (chunked ps.two out) is ∙ (unfold chunked in refl)
 
   in_range : (served : Served ps lookup sorted) → InRange (planes served.codes ps) (inside_of right bottom) (chunk_of ps.two e out)
   in_range served =
       run-all (source seg) (λ (x : Chunk × Running). InRange (planes served.codes ps) (inside_of right bottom) x.0)
       (chunk (served.codes 0) (planes served.codes ps) (inside_of right bottom) (running_of ps.two r))
-      (chunk_in (served.codes 0) (planes served.codes ps) (inside_of right bottom) (running_of ps.two r)) (spending s) (read_so served.codes served.coded)
+      (chunk_in (served.codes 0) (planes served.codes ps) (inside_of right bottom) (running_of ps.two r)) (spending s)
+      (read_so served.codes served.coded)
 
   pub filled : Served ps lookup sorted → (p : Palettes) → Reaches p ps.first × Reaches p ps.second → AllFilled p ps e out right bottom
   unfolding chunk_of plane_of
@@ -181,10 +195,13 @@ module _ {lookup sorted seg out : List ℕ} {ps : Planes} {right bottom : Bool} 
       let known : e < 8 = (reads.on e n t is).1 in
       let tile : tile_at e q < get_or tile_counts e 0 = tile_below e q known four in
       let tiles = in_row ps.two (in_range served).tiles in
-      let picked = in_row ps.two (picked-at ps.two (plane_of served.codes ps.first) (plane_of served.codes ps.second) out q four (in_range served).places) in
+      let picked = in_row ps.two (picked-at ps.two (plane_of served.codes ps.first) (plane_of served.codes ps.second) out q four
+      (in_range served).places) in
       record {
-        first = has (shade_of p ps.first) (get_or out (tile_at e q) 0) (get_or out (8 + q) 0) reach.0 (rw (get_or-take _ out (tile_at e q) 0 tile) at (below_at tiles.0 (tile_at e q) tile)) (picked.0 inside);
+        first = has (shade_of p ps.first) (get_or out (tile_at e q) 0) (get_or out (8 + q) 0) reach.0
+            (rw (get_or-take _ out (tile_at e q) 0 tile) at (below_at tiles.0 (tile_at e q) tile)) (picked.0 inside);
         second = λ two.
             has (shade_of p ps.second) (get_or out (4 + tile_at e q) 0) (get_or out (12 + q) 0) reach.1
-            (rw (get_or-take _ (drop 4 out) (tile_at e q) 0 tile, get_or-drop 4 out (tile_at e q) 0) at (below_at (tiles.1 two) (tile_at e q) tile)) (picked.1 two inside);
+            (rw (get_or-take _ (drop 4 out) (tile_at e q) 0 tile, get_or-drop 4 out (tile_at e q) 0) at
+            (below_at (tiles.1 two) (tile_at e q) tile)) (picked.1 two inside);
       }

@@ -36,7 +36,8 @@ module _ {ps : Planes} {lookup sorted : List ℕ} (s : Served ps lookup sorted) 
   sorted-end = table-end k ps.tables ps.sorted_step sorted h s.sorteds
 
 -- the slices from its start to its end are the table
-pub in_slices : (P : List ℕ → List ℕ → Type 0) (ps : Planes) (lookup sorted : List ℕ) (k : ℕ) → P (lookup_of ps lookup k) (sorted_of ps sorted k)
+pub in_slices : (P : List ℕ → List ℕ → Type 0) (ps : Planes) (lookup sorted : List ℕ) (k : ℕ) → P (lookup_of ps lookup k)
+    (sorted_of ps sorted k)
     → P (take (k * ps.lookup_step + ps.lookup_step - k * ps.lookup_step) (drop (k * ps.lookup_step) lookup))
     (take (k * ps.sorted_step + ps.sorted_step - k * ps.sorted_step) (drop (k * ps.sorted_step) sorted))
 in_slices P ps lookup sorted k d = rw (across (k * ps.lookup_step) ps.lookup_step, across (k * ps.sorted_step) ps.sorted_step) d

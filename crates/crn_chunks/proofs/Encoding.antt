@@ -34,7 +34,8 @@ module _ {S : Type 0} (src : Source S) (ls : List ℕ) (w : S) where
     unfolding encoding pending_of
     code_lost e = simp (lt-ltb _ _ none) (stop src _ _ w e)
 
-    pub code-far : {s : ℕ} {u : S} → run src (symbol ls) w ≡ got s u → chunk_symbols ≤ s → run src (encoding ls (pending_of v)) w ≡ refused 13 (src.stopped u)
+    pub code-far : {s : ℕ} {u : S} → run src (symbol ls) w ≡ got s u → chunk_symbols ≤ s → run src (encoding ls (pending_of v)) w ≡ refused
+        13 (src.stopped u)
     unfolding encoding pending_of encoding_then
     code-far {u = u} e g = simp (lt-ltb _ _ none) (go_on src _ encoding_then w e ∙ simp (le-ltb _ _ g) (refusing src 13 u))
 

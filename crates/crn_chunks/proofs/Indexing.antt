@@ -37,13 +37,16 @@ module _ {S : Type 0} (src : Source S) where
   -- an endpoint index is always looked at
   pub endpoint-is : (p : Plane) (i : ℕ) (w : S) → run src (endpoint_index p i) w ≡ run src (index_of p.endpoint_deltas p.endpoints true i) w
   unfolding endpoint_index index_of
-  endpoint-is p i w = run_cong src (symbol p.endpoint_deltas) _ _ w (λ d v. looked (ltb (stepped p.endpoints i d) p.endpoints) (stepped p.endpoints i d) v)
+  endpoint-is p i w = run_cong src (symbol p.endpoint_deltas) _ _ w
+      (λ d v. looked (ltb (stepped p.endpoints i d) p.endpoints) (stepped p.endpoints i d) v)
     where
-      looked : (h : Bool) (j : ℕ) (v : S) → run src (pick h (answer j) (refuse 14)) v ≡ run src (pick (either h false) (answer j) (refuse 14)) v
+      looked : (h : Bool) (j : ℕ) (v : S) → run src (pick h (answer j) (refuse 14)) v ≡ run src
+          (pick (either h false) (answer j) (refuse 14)) v
       looked true j v = refl
       looked false j v = refl
 
-  pub selector-is : (p : Plane) (inside : Bool) (i : ℕ) (w : S) → run src (selector_index p inside i) w ≡ run src (index_of p.selector_deltas p.selectors inside i) w
+  pub selector-is : (p : Plane) (inside : Bool) (i : ℕ) (w : S) → run src (selector_index p inside i) w ≡ run src
+      (index_of p.selector_deltas p.selectors inside i) w
   unfolding selector_index index_of
   selector-is p inside i w = refl
 

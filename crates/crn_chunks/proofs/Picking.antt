@@ -35,29 +35,36 @@ module _ {S : Type 0} (src : Source S) (p q : Plane) (inside : Bool) (i j : ℕ)
   spot-one : (two : Bool) {a : ℕ} (b : ℕ) {v : S} → two ≡ false → run src (index_of p.selector_deltas p.selectors inside i) w ≡ got a v
       → run src (plane_selectors (row two p q) inside (row two i j)) w ≡ got (row two a b) v
   unfolding plane_selectors
-  spot-one two {a} b {v} h e = rw h (go_on src _ _ w (selector-is src p inside i w ∙ e) ∙ go_on src (answer []) (λ more. answer (a ∷ more)) v (answered {A = List ℕ} src [] v) ∙ answered src _ v)
+  spot-one two {a} b {v} h e = rw h (go_on src _ _ w (selector-is src p inside i w ∙ e) ∙ go_on src (answer []) (λ more. answer (a ∷ more))
+      v (answered {A = List ℕ} src [] v) ∙ answered src _ v)
 
   spot-then_lost : (two : Bool) {a x : ℕ} {v u : S} → two ≡ true → run src (index_of p.selector_deltas p.selectors inside i) w ≡ got a v
-      → run src (index_of q.selector_deltas q.selectors inside j) v ≡ refused x u → run src (plane_selectors (row two p q) inside (row two i j)) w ≡ refused x u
+      → run src (index_of q.selector_deltas q.selectors inside j) v ≡ refused x u → run src
+      (plane_selectors (row two p q) inside (row two i j)) w ≡ refused x u
   unfolding plane_selectors
-  spot-then_lost two {v = v} h e f = rw h (go_on src _ _ w (selector-is src p inside i w ∙ e) ∙ stop src _ _ v (stop src _ _ v (selector-is src q inside j v ∙ f)))
+  spot-then_lost two {v = v} h e f = rw h (go_on src _ _ w (selector-is src p inside i w ∙ e) ∙ stop src _ _ v
+      (stop src _ _ v (selector-is src q inside j v ∙ f)))
 
   spot-two : (two : Bool) {a b : ℕ} {v u : S} → two ≡ true → run src (index_of p.selector_deltas p.selectors inside i) w ≡ got a v
-      → run src (index_of q.selector_deltas q.selectors inside j) v ≡ got b u → run src (plane_selectors (row two p q) inside (row two i j)) w ≡ got (row two a b) u
+      → run src (index_of q.selector_deltas q.selectors inside j) v ≡ got b u → run src (plane_selectors (row two p q) inside (row two i j))
+      w ≡ got (row two a b) u
   unfolding plane_selectors
   spot-two two {a} {b} {v} {u} h e f =
       rw h (go_on src _ _ w (selector-is src p inside i w ∙ e)
-      ∙ go_on src _ (λ more. answer (a ∷ more)) v (go_on src _ _ v (selector-is src q inside j v ∙ f) ∙ go_on src (answer []) (λ more. answer (b ∷ more)) u (answered {A = List ℕ} src [] u) ∙ answered src _ u)
+      ∙ go_on src _ (λ more. answer (a ∷ more)) v (go_on src _ _ v (selector-is src q inside j v ∙ f) ∙ go_on src (answer [])
+      (λ more. answer (b ∷ more)) u (answered {A = List ℕ} src [] u) ∙ answered src _ u)
       ∙ answered src _ u)
 
 -- ---- the answer at a position, by those for the first plane and the second
 
-module _ {lookup sorted seg : List ℕ} (ps : Planes) (inside : Bool) (s0 s1 : ℕ) {s : Stream} {a : Drew} (x : Draws lookup sorted seg ps (λ cs. index_of (cs ps.first.sels) ps.first.selectors inside s0) s (reach inside s0) a) where
+module _ {lookup sorted seg : List ℕ} (ps : Planes) (inside : Bool) (s0 s1 : ℕ) {s : Stream} {a : Drew}
+    (x : Draws lookup sorted seg ps (λ cs. index_of (cs ps.first.sels) ps.first.selectors inside s0) s (reach inside s0) a) where
   pub picks_lost : {y : Stop} → a ≡ Lost y → Picks lookup sorted seg ps inside s0 s1 s (Unpaired y)
   unfolding plane_of
   picks_lost e =
       record {
-        same = λ cs c. sym (spot_lost (source seg) (plane_of cs ps.first) (plane_of cs ps.second) inside s0 s1 (spending s) ps.two (sym (x.same cs c) ∙ ap (drew (λ v. v)) e));
+        same = λ cs c. sym (spot_lost (source seg) (plane_of cs ps.first) (plane_of cs ps.second) inside s0 s1 (spending s) ps.two
+            (sym (x.same cs c) ∙ ap (drew (λ v. v)) e));
         on = tt;
       }
 
@@ -72,11 +79,13 @@ module _ {lookup sorted seg : List ℕ} (ps : Planes) (inside : Bool) (s0 s1 : �
     unfolding plane_of
     picks_one h =
         record {
-          same = λ cs c. sym (spot-one (source seg) (plane_of cs ps.first) (plane_of cs ps.second) inside s0 s1 (spending s) ps.two 0 h (sym (x.same cs c) ∙ ap (drew (λ v. v)) e));
+          same = λ cs c. sym (spot-one (source seg) (plane_of cs ps.first) (plane_of cs ps.second) inside s0 s1 (spending s) ps.two 0 h
+              (sym (x.same cs c) ∙ ap (drew (λ v. v)) e));
           on = (first_on.0, (first_on.1, reach-some inside s1));
         }
 
-    module _ (h : ps.two ≡ true) {b : Drew} (y : Draws lookup sorted seg ps (λ cs. index_of (cs ps.second.sels) ps.second.selectors inside s1) t (reach inside s1) b) where
+    module _ (h : ps.two ≡ true) {b : Drew} (y : Draws lookup sorted seg ps
+        (λ cs. index_of (cs ps.second.sels) ps.second.selectors inside s1) t (reach inside s1) b) where
       pub picks_then_lost : {z : Stop} → b ≡ Lost z → Picks lookup sorted seg ps inside s0 s1 s (Unpaired z)
       unfolding plane_of
       picks_then_lost f =
@@ -100,8 +109,10 @@ module _ {lookup sorted seg : List ℕ} (ps : Planes) (inside : Bool) (s0 s1 : �
 
 -- ---- one position more, over any source
 
-module _ {S : Type 0} (src : Source S) (ps : List Plane) (is : List ℕ) (rows : List (List ℕ)) (w : S) {flags more : List Bool} {inside : Bool} (f : flags ≡ inside ∷ more) where
-  row_lost : {x : ℕ} {v : S} → run src (plane_selectors ps inside is) w ≡ refused x v → run src (position_selectors ps flags is rows) w ≡ refused x v
+module _ {S : Type 0} (src : Source S) (ps : List Plane) (is : List ℕ) (rows : List (List ℕ)) (w : S) {flags more : List Bool}
+    {inside : Bool} (f : flags ≡ inside ∷ more) where
+  row_lost : {x : ℕ} {v : S} → run src (plane_selectors ps inside is) w ≡ refused x v → run src (position_selectors ps flags is rows) w ≡
+      refused x v
   unfolding position_selectors
   row_lost e = rw f (stop src _ _ w e)
 
@@ -110,13 +121,15 @@ module _ {S : Type 0} (src : Source S) (ps : List Plane) (is : List ℕ) (rows :
   unfolding position_selectors
   row_more e = rw f (go_on src _ _ w e)
 
-row_done : {S : Type 0} (src : Source S) (ps : List Plane) (is : List ℕ) (rows : List (List ℕ)) (w : S) → run src (position_selectors ps [] is rows) w ≡ got rows w
+row_done : {S : Type 0} (src : Source S) (ps : List Plane) (is : List ℕ) (rows : List (List ℕ)) (w : S) → run src
+    (position_selectors ps [] is rows) w ≡ got rows w
 unfolding position_selectors
 row_done src ps is rows w = answered src rows w
 
 -- ---- the indices in their place
 
-rows_same : (two : Bool) (l m : List ℕ) (k : ℕ) → ((q : ℕ) → q < k → (get_or l (8 + q) 0 ≡ get_or m (8 + q) 0) × (get_or l (12 + q) 0 ≡ get_or m (12 + q) 0)) → rows_to two l k ≡ rows_to two m k
+rows_same : (two : Bool) (l m : List ℕ) (k : ℕ) → ((q : ℕ) → q < k → (get_or l (8 + q) 0 ≡ get_or m (8 + q) 0) ×
+    (get_or l (12 + q) 0 ≡ get_or m (12 + q) 0)) → rows_to two l k ≡ rows_to two m k
 unfolding rows_to
 rows_same two l m zero h = refl
 rows_same two l m (suc k) h =
@@ -127,9 +140,12 @@ rows_set : (two : Bool) (l : List ℕ) (k i j : ℕ) → k < 4 → length l ≡ 
     → rows_to two (set (set l (8 + k) i) (12 + k) j) (k + 1) ≡ rows_to two l k ++ (row two i j ∷ [])
 unfolding rows_to
 rows_set two l k i j h e =
-    let a : get_or (set (set l (8 + k) i) (12 + k) j) (12 + k) 0 ≡ j = get_or-set_same (set l (8 + k) i) (12 + k) j 0 (omega (arith, length-set l (8 + k) i)) in
-    let b : get_or (set (set l (8 + k) i) (12 + k) j) (8 + k) 0 ≡ i = get_or-set_other (set l (8 + k) i) (12 + k) (8 + k) j 0 (λ f. omega arith) ∙ get_or-set_same l (8 + k) i 0 (omega arith) in
-    rw (add-one k) (rw (a, b) (rw (rows_same two (set (set l (8 + k) i) (12 + k) j) l k (λ q f. (other (8 + q) (omega arith) (omega arith), other (12 + q) (omega arith) (omega arith))))))
+    let a : get_or (set (set l (8 + k) i) (12 + k) j) (12 + k) 0 ≡ j = get_or-set_same (set l (8 + k) i) (12 + k) j 0
+    (omega (arith, length-set l (8 + k) i)) in
+    let b : get_or (set (set l (8 + k) i) (12 + k) j) (8 + k) 0 ≡ i = get_or-set_other (set l (8 + k) i) (12 + k) (8 + k) j 0
+    (λ f. omega arith) ∙ get_or-set_same l (8 + k) i 0 (omega arith) in
+    rw (add-one k) (rw (a, b) (rw (rows_same two (set (set l (8 + k) i) (12 + k) j) l k
+    (λ q f. (other (8 + q) (omega arith) (omega arith), other (12 + q) (omega arith) (omega arith))))))
   where
     other : (q : ℕ) → (q ≡ 12 + k → ⊥) → (q ≡ 8 + k → ⊥) → get_or (set (set l (8 + k) i) (12 + k) j) q 0 ≡ get_or l q 0
     other q f g = get_or-set_other (set l (8 + k) i) (12 + k) q j 0 f ∙ get_or-set_other l (8 + k) q i 0 g
@@ -149,7 +165,8 @@ pub reach-at : (k : ℕ) → k ≤ 4 → reach_at k ≤ most
 reach-at zero h = omega arith
 reach-at (suc k) h = omega arith
 
-reach-next : (right bottom : Bool) (k : ℕ) {inside : Bool} {i j : ℕ} → inside ≡ get_or (inside_of right bottom) k true → i < reach_at k → j < reach inside i → j < reach_at (k + 1)
+reach-next : (right bottom : Bool) (k : ℕ) {inside : Bool} {i j : ℕ} → inside ≡ get_or (inside_of right bottom) k true → i < reach_at k → j
+    < reach inside i → j < reach_at (k + 1)
 reach-next right bottom zero e h g = rw e at g
 reach-next right bottom (suc k) {inside} {i} {j} e h g = rw (add-one (suc k)) (go inside g)
   where
@@ -157,12 +174,14 @@ reach-next right bottom (suc k) {inside} {i} {j} e h g = rw (add-one (suc k)) (g
     go true l = omega arith
     go false l = omega arith
 
-flag : (right bottom : Bool) (k : ℕ) {inside : Bool} → k < 4 → inside ≡ get_or (inside_of right bottom) k true → drop k (inside_of right bottom) ≡ inside ∷ drop (k + 1) (inside_of right bottom)
+flag : (right bottom : Bool) (k : ℕ) {inside : Bool} → k < 4 → inside ≡ get_or (inside_of right bottom) k true → drop k
+    (inside_of right bottom) ≡ inside ∷ drop (k + 1) (inside_of right bottom)
 flag right bottom k h e = rw (e, add-one k) (drop-cons (inside_of right bottom) k true h)
 
 -- ---- k of the four positions done: what is left, run from here, ends as all of them do
 
-pub record Picking (lookup sorted seg : List ℕ) (ps : Planes) (right bottom : Bool) (s0 s1 : ℕ) (s : Stream) (before out : List ℕ) (at : Stream) (i0 i1 k : ℕ) : Type 0 where
+pub record Picking (lookup sorted seg : List ℕ) (ps : Planes) (right bottom : Bool) (s0 s1 : ℕ) (s : Stream) (before out : List ℕ)
+    (at : Stream) (i0 i1 k : ℕ) : Type 0 where
   pub some : k ≤ 4
   pub holds : Holds seg at.cursor
   pub below : (i0 < reach_at k) × (i1 < reach_at k)
@@ -171,10 +190,12 @@ pub record Picking (lookup sorted seg : List ℕ) (ps : Planes) (right bottom : 
   pub kept : Kept 8 before out
   pub left : (cs : ℕ → List ℕ) → Coded cs ps lookup sorted
       → run (source seg) (position_selectors (planes cs ps) (inside_of right bottom) (row ps.two s0 s1) []) (spending s)
-      ≡ run (source seg) (position_selectors (planes cs ps) (drop k (inside_of right bottom)) (row ps.two i0 i1) (rows_to ps.two out k)) (spending at)
+      ≡ run (source seg) (position_selectors (planes cs ps) (drop k (inside_of right bottom)) (row ps.two i0 i1) (rows_to ps.two out k))
+      (spending at)
 
 module _ {lookup sorted seg : List ℕ} {ps : Planes} {right bottom : Bool} {s0 s1 : ℕ} {s : Stream} where
-  pub picking_none : (before : List ℕ) → Holds seg s.cursor → s0 < most → s1 < most → Picking lookup sorted seg ps right bottom s0 s1 s before before s s0 s1 0
+  pub picking_none : (before : List ℕ) → Holds seg s.cursor → s0 < most → s1 < most → Picking lookup sorted seg ps right bottom s0 s1 s
+      before before s s0 s1 0
   unfolding rows_to last_row
   picking_none before h f g =
       record {
@@ -187,39 +208,44 @@ module _ {lookup sorted seg : List ℕ} {ps : Planes} {right bottom : Bool} {s0 
         left = λ cs c. refl;
       }
 
-  module _ {before out : List ℕ} {at : Stream} {i0 i1 k : ℕ} (x : Picking lookup sorted seg ps right bottom s0 s1 s before out at i0 i1 k) where
-    module _ (more : k < 4) {inside : Bool} (f : inside ≡ get_or (inside_of right bottom) k true) {a : Paired} (d : Picks lookup sorted seg ps inside i0 i1 at a) where
-      pub picking_more : {i j : ℕ} {t : Stream} → a ≡ Pair i j t → length before ≡ 16
-          → Picking lookup sorted seg ps right bottom s0 s1 s before (set (set out (8 + k) i) (12 + k) j) t i j (k + 1)
-      picking_more {i} {j} {t} e l =
-          let g = when_paired (λ i j t. Holds seg t.cursor × ((i < reach inside i0) × (j < reach inside i1))) d.on e in
-          let q = rows_set ps.two out k i j more (x.long ∙ l) in
-          record {
-            some = omega arith;
-            holds = g.0;
-            below = (reach-next right bottom k f x.below.0 g.1.0, reach-next right bottom k f x.below.1 g.1.1);
-            final = rw q (last-row-more (row ps.two s0 s1) (rows_to ps.two out k) (row ps.two i j));
-            long = length-set (set out (8 + k) i) (12 + k) j ∙ length-set out (8 + k) i ∙ x.long;
-            kept = λ p h. get_or-set_other (set out (8 + k) i) (12 + k) p j 0 (λ z. omega arith) ∙ get_or-set_other out (8 + k) p i 0 (λ z. omega arith) ∙ x.kept p h;
-            left = λ cs c. x.left cs c ∙ row_more (source seg) (planes cs ps) (row ps.two i0 i1) (rows_to ps.two out k) (spending at) (flag right bottom k more f) (sym (d.same cs c) ∙ ap (paired (row ps.two)) e) ∙ rw q;
-          }
+  module _ {before out : List ℕ} {at : Stream} {i0 i1 k : ℕ} (x : Picking lookup sorted seg ps right bottom s0 s1 s before out at i0 i1 k)
+    where
+      module _ (more : k < 4) {inside : Bool} (f : inside ≡ get_or (inside_of right bottom) k true) {a : Paired}
+          (d : Picks lookup sorted seg ps inside i0 i1 at a) where
+        pub picking_more : {i j : ℕ} {t : Stream} → a ≡ Pair i j t → length before ≡ 16
+            → Picking lookup sorted seg ps right bottom s0 s1 s before (set (set out (8 + k) i) (12 + k) j) t i j (k + 1)
+        picking_more {i} {j} {t} e l =
+            let g = when_paired (λ i j t. Holds seg t.cursor × ((i < reach inside i0) × (j < reach inside i1))) d.on e in
+            let q = rows_set ps.two out k i j more (x.long ∙ l) in
+            record {
+              some = omega arith;
+              holds = g.0;
+              below = (reach-next right bottom k f x.below.0 g.1.0, reach-next right bottom k f x.below.1 g.1.1);
+              final = rw q (last-row-more (row ps.two s0 s1) (rows_to ps.two out k) (row ps.two i j));
+              long = length-set (set out (8 + k) i) (12 + k) j ∙ length-set out (8 + k) i ∙ x.long;
+              kept = λ p h. get_or-set_other (set out (8 + k) i) (12 + k) p j 0 (λ z. omega arith) ∙ get_or-set_other out (8 + k) p i 0
+                  (λ z. omega arith) ∙ x.kept p h;
+              left = λ cs c. x.left cs c ∙ row_more (source seg) (planes cs ps) (row ps.two i0 i1) (rows_to ps.two out k) (spending at)
+                  (flag right bottom k more f) (sym (d.same cs c) ∙ ap (paired (row ps.two)) e) ∙ rw q;
+            }
 
-      pub picking_lost : {y : Stop} → a ≡ Unpaired y → AllPicked lookup sorted seg ps (inside_of right bottom) s0 s1 s before out a
-      picking_lost e =
-          record {
-            same = λ cs c.
-                ap (paired (λ _ _. rows_to ps.two out 4)) e
-                ∙ sym (x.left cs c ∙ row_lost (source seg) (planes cs ps) (row ps.two i0 i1) (rows_to ps.two out k) (spending at) (flag right bottom k more f) (sym (d.same cs c) ∙ ap (paired (row ps.two)) e));
-            on = subst (WhenPaired _) (sym e) tt;
-            kept = x.kept;
-          }
+        pub picking_lost : {y : Stop} → a ≡ Unpaired y → AllPicked lookup sorted seg ps (inside_of right bottom) s0 s1 s before out a
+        picking_lost e =
+            record {
+              same = λ cs c.
+                  ap (paired (λ _ _. rows_to ps.two out 4)) e
+                  ∙ sym (x.left cs c ∙ row_lost (source seg) (planes cs ps) (row ps.two i0 i1) (rows_to ps.two out k) (spending at)
+                  (flag right bottom k more f) (sym (d.same cs c) ∙ ap (paired (row ps.two)) e));
+              on = subst (WhenPaired _) (sym e) tt;
+              kept = x.kept;
+            }
 
-    pub picking_done : 4 ≤ k → AllPicked lookup sorted seg ps (inside_of right bottom) s0 s1 s before out (Pair i0 i1 at)
-    picking_done h =
-        let e : k ≡ 4 = omega (arith, x.some) in
-        let y = rw e at x in
-        record {
-          same = λ cs c. sym (y.left cs c ∙ row_done (source seg) (planes cs ps) (row ps.two i0 i1) (rows_to ps.two out 4) (spending at));
-          on = (y.holds, (omega (arith, y.below.0), (omega (arith, y.below.1), y.final)));
-          kept = y.kept;
-        }
+      pub picking_done : 4 ≤ k → AllPicked lookup sorted seg ps (inside_of right bottom) s0 s1 s before out (Pair i0 i1 at)
+      picking_done h =
+          let e : k ≡ 4 = omega (arith, x.some) in
+          let y = rw e at x in
+          record {
+            same = λ cs c. sym (y.left cs c ∙ row_done (source seg) (planes cs ps) (row ps.two i0 i1) (rows_to ps.two out 4) (spending at));
+            on = (y.holds, (omega (arith, y.below.0), (omega (arith, y.below.1), y.final)));
+            kept = y.kept;
+          }

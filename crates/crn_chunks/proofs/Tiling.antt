@@ -29,7 +29,8 @@ module _ {S : Type 0} (src : Source S) (p : Plane) (n k : ℕ) (xs : List ℕ) (
   split : k < n → n - k ≡ suc (n - (k + 1))
   split h = omega arith
 
-  tile_lost : {x : ℕ} {v : S} → k < n → run src (index_of p.endpoint_deltas p.endpoints true j) w ≡ refused x v → run src (endpoint_indices p (n - k) j xs) w ≡ refused x v
+  tile_lost : {x : ℕ} {v : S} → k < n → run src (index_of p.endpoint_deltas p.endpoints true j) w ≡ refused x v → run src
+      (endpoint_indices p (n - k) j xs) w ≡ refused x v
   unfolding endpoint_indices
   tile_lost h e = rw (split h) (stop src _ _ w (endpoint-is src p j w ∙ e))
 
@@ -44,7 +45,8 @@ module _ {S : Type 0} (src : Source S) (p : Plane) (n k : ℕ) (xs : List ℕ) (
 
 -- ---- the indices in their place
 
-tiles-set : (base k : ℕ) (l : List ℕ) (v : ℕ) → base + k < length l → tiles_at base (k + 1) (set l (base + k) v) ≡ tiles_at base k l ++ (v ∷ [])
+tiles-set : (base k : ℕ) (l : List ℕ) (v : ℕ) → base + k < length l → tiles_at base (k + 1) (set l (base + k) v) ≡ tiles_at base k l ++
+    (v ∷ [])
 tiles-set base k l v h = rw (drop-set-add base l k v, add-one k) (take-suc-set (drop base l) k v (simp (length-drop) (omega arith)))
 
 last_more : (i : ℕ) (xs : List ℕ) (v : ℕ) → last_or i (xs ++ (v ∷ [])) ≡ v
@@ -56,7 +58,8 @@ kept_set : (base : ℕ) (before l : List ℕ) (k v : ℕ) → base ≤ k → Kep
 kept_set base before l k v h f q g = get_or-set_other l k q v 0 (λ e. omega arith) ∙ f q g
 
 -- what stands before `base` is the same
-pub kept-tiles : (base from n : ℕ) (before after : List ℕ) → from + n ≤ base → length after ≡ length before → Kept base before after → tiles_at from n after ≡ tiles_at from n before
+pub kept-tiles : (base from n : ℕ) (before after : List ℕ) → from + n ≤ base → length after ≡ length before → Kept base before after →
+    tiles_at from n after ≡ tiles_at from n before
 kept-tiles base from n before after h e f =
     ext_get_or 0 _ _ (simp (length-take, length-drop) (rw e)) (λ i g.
     let l : i < n = omega (arith, length-take n (drop from after)) in
@@ -65,7 +68,8 @@ kept-tiles base from n before after h e f =
 
 -- ---- k of a plane's n tiles done: what is left, run from here, ends as all of them do
 
-pub record Tiling (lookup sorted seg : List ℕ) (ps : Planes) (p : Side) (base n i : ℕ) (s : Stream) (before out : List ℕ) (at : Stream) (last k : ℕ) : Type 0 where
+pub record Tiling (lookup sorted seg : List ℕ) (ps : Planes) (p : Side) (base n i : ℕ) (s : Stream) (before out : List ℕ) (at : Stream)
+    (last k : ℕ) : Type 0 where
   pub some : k ≤ n
   pub holds : Holds seg at.cursor
   pub below : last < most
@@ -91,8 +95,10 @@ module _ {lookup sorted seg : List ℕ} {ps : Planes} {p : Side} {base n i : ℕ
       }
 
   module _ {before out : List ℕ} {at : Stream} {last k : ℕ} (x : Tiling lookup sorted seg ps p base n i s before out at last k) where
-    module _ (more : k < n) {a : Drew} (d : Draws lookup sorted seg ps (λ cs. index_of (cs p.ends) p.endpoints true last) at (reach true last) a) where
-      pub tiling_more : {j : ℕ} {t : Stream} → a ≡ Got j t → base + n ≤ length before → Tiling lookup sorted seg ps p base n i s before (set out (base + k) j) t j (k + 1)
+    module _ (more : k < n) {a : Drew} (d : Draws lookup sorted seg ps (λ cs. index_of (cs p.ends) p.endpoints true last) at
+        (reach true last) a) where
+      pub tiling_more : {j : ℕ} {t : Stream} → a ≡ Got j t → base + n ≤ length before → Tiling lookup sorted seg ps p base n i s before
+          (set out (base + k) j) t j (k + 1)
       unfolding plane_of
       tiling_more {j} {t} e f =
           let g = when_drew (λ v t. Holds seg t.cursor × (v < reach true last)) d.on e in
@@ -104,7 +110,8 @@ module _ {lookup sorted seg : List ℕ} {ps : Planes} {p : Side} {base n i : ℕ
             final = rw q (last_more i (tiles_at base k out) j);
             long = length-set out (base + k) j ∙ x.long;
             kept = kept_set base before out (base + k) j (omega arith) x.kept;
-            left = λ cs c. x.left cs c ∙ tile_more (source seg) (plane_of cs p) n k (tiles_at base k out) last (spending at) more (sym (d.same cs c) ∙ ap (drew (λ v. v)) e) ∙ rw q;
+            left = λ cs c. x.left cs c ∙ tile_more (source seg) (plane_of cs p) n k (tiles_at base k out) last (spending at) more
+                (sym (d.same cs c) ∙ ap (drew (λ v. v)) e) ∙ rw q;
           }
 
       pub tiling_lost : {y : Stop} → a ≡ Lost y → Tiled lookup sorted seg ps p base n i s before out a
@@ -113,7 +120,8 @@ module _ {lookup sorted seg : List ℕ} {ps : Planes} {p : Side} {base n i : ℕ
           record {
             same = λ cs c.
                 ap (drew (λ _. tiles_at base n out)) e
-                ∙ sym (x.left cs c ∙ tile_lost (source seg) (plane_of cs p) n k (tiles_at base k out) last (spending at) more (sym (d.same cs c) ∙ ap (drew (λ v. v)) e));
+                ∙ sym (x.left cs c ∙ tile_lost (source seg) (plane_of cs p) n k (tiles_at base k out) last (spending at) more
+                (sym (d.same cs c) ∙ ap (drew (λ v. v)) e));
             on = subst (WhenDrew _) (sym e) tt;
             kept = x.kept;
           }
@@ -138,7 +146,8 @@ module _ {S : Type 0} (src : Source S) (p q : Plane) (n i j : ℕ) (w : S) where
   planes-one : (two : Bool) {xs : List ℕ} (ys : List ℕ) {v : S} → two ≡ false → run src (endpoint_indices p n i []) w ≡ got xs v
       → run src (plane_endpoints (row two p q) n (row two i j)) w ≡ got (row two xs ys) v
   unfolding plane_endpoints
-  planes-one two {xs} ys {v} h e = rw h (go_on src _ _ w e ∙ go_on src (answer []) (λ more. answer (xs ∷ more)) v (answered {A = List (List ℕ)} src [] v) ∙ answered src _ v)
+  planes-one two {xs} ys {v} h e = rw h (go_on src _ _ w e ∙ go_on src (answer []) (λ more. answer (xs ∷ more)) v
+      (answered {A = List (List ℕ)} src [] v) ∙ answered src _ v)
 
   planes-then_lost : (two : Bool) {xs : List ℕ} {x : ℕ} {v u : S} → two ≡ true → run src (endpoint_indices p n i []) w ≡ got xs v
       → run src (endpoint_indices q n j []) v ≡ refused x u → run src (plane_endpoints (row two p q) n (row two i j)) w ≡ refused x u
@@ -150,10 +159,12 @@ module _ {S : Type 0} (src : Source S) (p q : Plane) (n i j : ℕ) (w : S) where
   unfolding plane_endpoints
   planes-two two {xs} {ys} {v} {u} h e f =
       rw h (go_on src _ _ w e
-      ∙ go_on src _ (λ more. answer (xs ∷ more)) v (go_on src _ _ v f ∙ go_on src (answer []) (λ more. answer (ys ∷ more)) u (answered {A = List (List ℕ)} src [] u) ∙ answered src _ u)
+      ∙ go_on src _ (λ more. answer (xs ∷ more)) v (go_on src _ _ v f ∙ go_on src (answer []) (λ more. answer (ys ∷ more)) u
+      (answered {A = List (List ℕ)} src [] u) ∙ answered src _ u)
       ∙ answered src _ u)
 
-lasts-row : (two : Bool) (i j : ℕ) (xs ys : List ℕ) {a b : ℕ} → last_or i xs ≡ a → (two ≡ true → last_or j ys ≡ b) → lasts (row two i j) (row two xs ys) ≡ row two a b
+lasts-row : (two : Bool) (i j : ℕ) (xs ys : List ℕ) {a b : ℕ} → last_or i xs ≡ a → (two ≡ true → last_or j ys ≡ b) → lasts (row two i j)
+    (row two xs ys) ≡ row two a b
 unfolding lasts
 lasts-row true i j xs ys e f = rw (e, f refl)
 lasts-row false i j xs ys e f = rw e
@@ -163,11 +174,13 @@ false_true e f = let z : ◌≡◌ {A = ℕ} 0 1 = cc in absurd (omega arith)
 
 -- ---- the answer for all planes, by those for the first and the second
 
-module _ {lookup sorted seg : List ℕ} (ps : Planes) {n e0 : ℕ} (e1 : ℕ) {s : Stream} {before mid : List ℕ} {a : Drew} (x : Tiled lookup sorted seg ps ps.first 0 n e0 s before mid a) where
+module _ {lookup sorted seg : List ℕ} (ps : Planes) {n e0 : ℕ} (e1 : ℕ) {s : Stream} {before mid : List ℕ} {a : Drew}
+    (x : Tiled lookup sorted seg ps ps.first 0 n e0 s before mid a) where
   pub tiles_lost : {y : Stop} → a ≡ Lost y → AllTiled lookup sorted seg ps n e0 e1 s mid (Unpaired y)
   tiles_lost e =
       record {
-        same = λ cs c. sym (planes_lost (source seg) (plane_of cs ps.first) (plane_of cs ps.second) n e0 e1 (spending s) ps.two (sym (x.same cs c) ∙ ap (drew (λ _. tiles_at 0 n mid)) e));
+        same = λ cs c. sym (planes_lost (source seg) (plane_of cs ps.first) (plane_of cs ps.second) n e0 e1 (spending s) ps.two
+            (sym (x.same cs c) ∙ ap (drew (λ _. tiles_at 0 n mid)) e));
         on = tt;
       }
 
@@ -182,7 +195,8 @@ module _ {lookup sorted seg : List ℕ} (ps : Planes) {n e0 : ℕ} (e1 : ℕ) {s
     tiles-one h l =
         let g = first_on in
         record {
-          same = λ cs c. sym (planes-one (source seg) (plane_of cs ps.first) (plane_of cs ps.second) n e0 e1 (spending s) ps.two (tiles_at 4 n mid) h (sym (x.same cs c) ∙ ap (drew (λ _. tiles_at 0 n mid)) e));
+          same = λ cs c. sym (planes-one (source seg) (plane_of cs ps.first) (plane_of cs ps.second) n e0 e1 (spending s) ps.two
+              (tiles_at 4 n mid) h (sym (x.same cs c) ∙ ap (drew (λ _. tiles_at 0 n mid)) e));
           on = (g.0, (g.1.0, (l, lasts-row ps.two e0 e1 (tiles_at 0 n mid) (tiles_at 4 n mid) g.1.1 (λ f. false_true h f))));
         }
 
@@ -196,7 +210,8 @@ module _ {lookup sorted seg : List ℕ} (ps : Planes) {n e0 : ℕ} (e1 : ℕ) {s
             on = tt;
           }
 
-      pub tiles-two : {j : ℕ} {u : Stream} → b ≡ Got j u → n ≤ 4 → length after ≡ length mid → AllTiled lookup sorted seg ps n e0 e1 s after (Pair i j u)
+      pub tiles-two : {j : ℕ} {u : Stream} → b ≡ Got j u → n ≤ 4 → length after ≡ length mid → AllTiled lookup sorted seg ps n e0 e1 s after
+          (Pair i j u)
       tiles-two {j} {u} f l k =
           let g = first_on in
           let r = when_drew (λ j t. Holds seg t.cursor × ((j < most) × (last_or e1 (tiles_at 4 n after) ≡ j))) y.on f in
@@ -204,6 +219,17 @@ module _ {lookup sorted seg : List ℕ} (ps : Planes) {n e0 : ℕ} (e1 : ℕ) {s
           record {
             same = λ cs c.
                 sym (planes-two (source seg) (plane_of cs ps.first) (plane_of cs ps.second) n e0 e1 (spending s) ps.two h
-                (sym (x.same cs c) ∙ ap (drew (λ _. tiles_at 0 n mid)) e ∙ ap (λ (xs : List ℕ). got xs (spending t)) (sym q)) (sym (y.same cs c) ∙ ap (drew (λ _. tiles_at 4 n after)) f));
-            on = (r.0, (g.1.0, (r.1.0, lasts-row ps.two e0 e1 (tiles_at 0 n after) (tiles_at 4 n after) (ap (last_or e0) q ∙ g.1.1) (λ _. r.1.1))));
+                (sym (x.same cs c) ∙ ap (drew (λ _. tiles_at 0 n mid)) e ∙ ap (λ (xs : List ℕ). got xs (spending t)) (sym q))
+                (sym (y.same cs c) ∙ ap (drew (λ _. tiles_at 4 n after)) f));
+            on = (
+              r.0,
+              (
+                g.1.0,
+                (
+                  r.1.0,
+                  lasts-row ps.two e0 e1 (tiles_at 0 n after) (tiles_at 4 n after) (ap (last_or e0) q ∙ g.1.1)
+                      (λ _. r.1.1),
+                ),
+              ),
+            );
           }

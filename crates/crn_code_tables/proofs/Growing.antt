@@ -78,7 +78,8 @@ pub record State (lookup sorted seg : List ℕ) (c : Cursor) (count : ℕ) (leng
   pub turns : ℕ
   pub enough : count ≤ done + turns
   pub blamed : ℕ
-  pub same : (cl : List ℕ) → Decodes cl lookup sorted → run (from_bits seg) (lengths_from cl count turns last (take done lengths)) (spot (place at) blamed)
+  pub same : (cl : List ℕ) → Decodes cl lookup sorted → run (from_bits seg) (lengths_from cl count turns last (take done lengths))
+      (spot (place at) blamed)
       ≡ run (from_bits seg) (lengths_from cl count count 0 []) (spot (place c) (place c))
 
 module _
@@ -90,7 +91,8 @@ module _
 
     -- a run is refused
     module _ {k : ℕ} {e : Cursor} (some : 0 < k) (holds : Holds seg e) where
-      stopped : ((cl : List ℕ) → Decodes cl lookup sorted → run (from_bits seg) (lengths_from cl count s.turns last (take done lengths)) (spot (place at) s.blamed) ≡ refused k (spot (place e) (place e)))
+      stopped : ((cl : List ℕ) → Decodes cl lookup sorted → run (from_bits seg) (lengths_from cl count s.turns last (take done lengths))
+          (spot (place at) s.blamed) ≡ refused k (spot (place e) (place e)))
           → Runs lookup sorted seg c count (record { refusal = k; cursor = e; room = 0 }) lengths
       stopped f =
           record {
@@ -103,20 +105,24 @@ module _
             room = λ z. absurd (omega arith);
           }
 
-      pub run-refused : ((cl : List ℕ) → Decodes cl lookup sorted → run (from_bits seg) (drawn_run cl last) (spot (place at) (place at)) ≡ refused k (spot (place e) (place e)))
+      pub run-refused : ((cl : List ℕ) → Decodes cl lookup sorted → run (from_bits seg) (drawn_run cl last) (spot (place at) (place at)) ≡
+          refused k (spot (place e) (place e)))
           → Runs lookup sorted seg c count (record { refusal = k; cursor = e; room = 0 }) lengths
       run-refused f =
-          stopped (λ cl d. turn-refused seg cl last (place at) count s.turns (take done lengths) s.blamed (omega (arith, front_long)) (omega (arith, front_long, s.enough)) (f cl d))
+          stopped (λ cl d. turn-refused seg cl last (place at) count s.turns (take done lengths) s.blamed (omega (arith, front_long))
+          (omega (arith, front_long, s.enough)) (f cl d))
 
     module _
         {n v : ℕ} (d : Cursor)
-        (f : (cl : List ℕ) → Decodes cl lookup sorted → run (from_bits seg) (drawn_run cl last) (spot (place at) (place at)) ≡ got (n, v) (spot (place d) (place at)))
+        (f : (cl : List ℕ) → Decodes cl lookup sorted → run (from_bits seg) (drawn_run cl last) (spot (place at) (place at)) ≡ got (n, v)
+        (spot (place d) (place at)))
       where
         -- or goes past the count
         pub run_long : count - done < n → Runs lookup sorted seg c count (record { refusal = 6; cursor = at; room = 0 }) lengths
         run_long l =
             stopped (omega arith) s.holds
-            (λ cl h. turn-long seg cl last (place at) count s.turns (take done lengths) s.blamed (omega (arith, front_long)) (omega (arith, front_long, s.enough)) (f cl h) (omega (arith, front_long)))
+            (λ cl h. turn-long seg cl last (place at) count s.turns (take done lengths) s.blamed (omega (arith, front_long))
+            (omega (arith, front_long, s.enough)) (f cl h) (omega (arith, front_long)))
 
         -- or comes after the others
         grown : (after : List ℕ) (sum' : ℕ) → 0 < n → done + n ≤ count → v ≤ max_length → Holds seg d → length after ≡ max_symbols
@@ -138,7 +144,8 @@ module _
               blamed = place at;
               same = λ cl h.
                   ap (λ (ls : List ℕ). run (from_bits seg) (lengths_from cl count (s.turns - 1) v ls) (spot (place d) (place at))) front
-                  ∙ sym (turn_more seg cl last (place at) count s.turns (take done lengths) s.blamed (omega (arith, front_long)) (omega (arith, front_long, s.enough)) (f cl h) (omega (arith, front_long)))
+                  ∙ sym (turn_more seg cl last (place at) count s.turns (take done lengths) s.blamed (omega (arith, front_long))
+                  (omega (arith, front_long, s.enough)) (f cl h) (omega (arith, front_long)))
                   ∙ s.same cl h;
             }
 
@@ -151,7 +158,8 @@ module _
             (rw z (omega arith)) (omega (arith, s.few))
 
         -- others are put there
-        pub grown_put : {after : List ℕ} (room : ℕ) → 0 < n → n ≤ count - done → v ≤ max_length → Holds seg d → after ≡ paste lengths done (replicate n v) n
+        pub grown_put : {after : List ℕ} (room : ℕ) → 0 < n → n ≤ count - done → v ≤ max_length → Holds seg d → after ≡ paste lengths done
+            (replicate n v) n
             → room ≡ n * share_of v → room ≤ 65535 * n → State lookup sorted seg c count after (done + n) v (sum + room) d
         grown_put {after} room some fit small holds put is few =
             let within : done + n ≤ length lengths = omega (arith, s.long) in
@@ -174,7 +182,8 @@ module _
       code_by : is_code (take count lent) ≡ both (leb r.room 65536) (ltb 0 r.room)
       code_by =
           let l = length-take-le count lent (omega (arith, ran.long)) in
-          by_room (take count lent) (rw l (ran.fits z)) ∙ ap (λ (x : ℕ). both (leb x 65536) (ltb 0 x)) (ap (room (take count lent)) l ∙ sym (ran.room z))
+          by_room (take count lent) (rw l (ran.fits z)) ∙ ap (λ (x : ℕ). both (leb x 65536) (ltb 0 x))
+          (ap (room (take count lent)) l ∙ sym (ran.room z))
 
       all_bad : is_code (take count lent) ≡ false → (cl : List ℕ) → Decodes cl lookup sorted
           → run (from_bits seg) (all_runs cl count) (spot (place c) (place c)) ≡ refused 6 (spot (place r.cursor) (place r.cursor))
@@ -189,6 +198,8 @@ module _
       all_large h = all_bad (code_by ∙ simp (lt-leb _ _ h))
 
       pub all_good : (r.room ≡ 0 → ⊥) → r.room ≤ 65536 → (cl : List ℕ) → Decodes cl lookup sorted
-          → run (from_bits seg) (all_runs cl count) (spot (place c) (place c)) ≡ got (take count lent) (spot (place r.cursor) (place r.cursor))
+          → run (from_bits seg) (all_runs cl count) (spot (place c) (place c)) ≡ got (take count lent)
+          (spot (place r.cursor) (place r.cursor))
       all_good n h cl d =
-          go_on _ _ _ _ (ran.same cl d ∙ said-got _ _ _ _ z) ∙ checked_good _ _ _ _ (code_by ∙ simp (le-leb _ _ h, lt-ltb 0 r.room (omega arith)))
+          go_on _ _ _ _ (ran.same cl d ∙ said-got _ _ _ _ z) ∙ checked_good _ _ _ _
+          (code_by ∙ simp (le-leb _ _ h, lt-ltb 0 r.room (omega arith)))

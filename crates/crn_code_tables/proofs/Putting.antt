@@ -23,7 +23,8 @@ zeros-front ls at n m h e =
     let s : m ≡ n + (m - n) = omega arith in
     take-add at n ls
     ∙ ap (λ (t : List ℕ). take at ls ++ t)
-    (ap (take n) (e ∙ ap (λ (k : ℕ). replicate k 0) s ∙ sym (replicate-append-replicate n (m - n) 0)) ∙ take_at (replicate n 0) (replicate (m - n) 0) n (length-replicate n 0))
+    (ap (take n) (e ∙ ap (λ (k : ℕ). replicate k 0) s ∙ sym (replicate-append-replicate n (m - n) 0)) ∙ take_at (replicate n 0)
+    (replicate (m - n) 0) n (length-replicate n 0))
 
 pub zeros-rest : (ls : List ℕ) (at n m : ℕ) → at + n ≤ m → drop at ls ≡ replicate (m - at) 0 → drop (at + n) ls ≡ replicate (m - (at + n)) 0
 zeros-rest ls at n m h e =
@@ -38,7 +39,8 @@ module _ (ls : List ℕ) (at n v : ℕ) (room : at + n ≤ length ls) where
       take-paste ls at (replicate n v) n (omega arith) (omega arith)
       ∙ ap (λ (t : List ℕ). take at ls ++ t) (take_all n (replicate n v) (omega arith))
 
-  pub run-rest : (m : ℕ) → at + n ≤ m → drop at ls ≡ replicate (m - at) 0 → drop (at + n) (paste ls at (replicate n v) n) ≡ replicate (m - (at + n)) 0
+  pub run-rest : (m : ℕ) → at + n ≤ m → drop at ls ≡ replicate (m - at) 0 → drop (at + n) (paste ls at (replicate n v) n) ≡ replicate
+      (m - (at + n)) 0
   run-rest m h e =
       let f = length-replicate n v in
       drop-paste ls at (replicate n v) n (omega arith) (omega arith) ∙ zeros-rest ls at n m h e

@@ -22,7 +22,8 @@ use Rattle.crn_code_tables.specs.Parts.{all_runs}
 -- ---- whether lengths make a code
 
 module _ (seg ls : List ℕ) (p b : ℕ) where
-  checked_by : {t : Bool} → is_code ls ≡ t → run (from_bits seg) (checked ls) (spot p b) ≡ run (from_bits seg) (pick t (answer ls) (refuse 6)) (spot p p)
+  checked_by : {t : Bool} → is_code ls ≡ t → run (from_bits seg) (checked ls) (spot p b) ≡ run (from_bits seg)
+      (pick t (answer ls) (refuse 6)) (spot p p)
   unfolding checked
   checked_by e = at_mark seg _ p b ∙ ap (λ (t : Bool). run (from_bits seg) (pick t (answer ls) (refuse 6)) (spot p p)) e
 
@@ -52,7 +53,8 @@ module _ (seg : List ℕ) (count n : ℕ) (w : Place) where
 -- ---- from the number of lengths of the code of lengths on
 
 module _ {seg : List ℕ} (count b : ℕ) {c : Cursor} {r : Taken} (t : Takes seg (a_number 5) c r) where
-  pub counted-failed : {k : ℕ} → r ≡ Failed k → run (from_bits seg) (counted count) (spot (place c) b) ≡ refused 8 (spot (place c) (place c))
+  pub counted-failed : {k : ℕ} → r ≡ Failed k → run (from_bits seg) (counted count) (spot (place c) b) ≡ refused 8
+      (spot (place c) (place c))
   unfolding counted
   counted-failed e = at_mark seg _ (place c) b ∙ number-refused t _ _ e
 
@@ -63,7 +65,8 @@ module _ {seg : List ℕ} (count b : ℕ) {c : Cursor} {r : Taken} (t : Takes se
 
     pub counted-many : (n ≡ 0 → ⊥) → 21 < n → run (from_bits seg) (counted count) (spot (place c) b) ≡ refused 6 (spot (place c) (place c))
     unfolding counted
-    counted-many h g = at_mark seg _ (place c) b ∙ taken-value t _ _ e ∙ simp (ne_eqb _ _ h, lt-ltb _ _ g) (at-refuse seg 6 (place d) (place c))
+    counted-many h g = at_mark seg _ (place c) b ∙ taken-value t _ _ e ∙ simp (ne_eqb _ _ h, lt-ltb _ _ g)
+        (at-refuse seg 6 (place d) (place c))
 
     pub counted-some : (n ≡ 0 → ⊥) → n ≤ 21
         → run (from_bits seg) (counted count) (spot (place c) b) ≡ run (from_bits seg) (coded count n) (spot (place d) (place c))
@@ -82,9 +85,11 @@ module _ {seg : List ℕ} (b : ℕ) {c : Cursor} {r : Taken} (t : Takes seg (a_n
     unfolding table
     reads_none h = at_mark seg _ (place c) b ∙ taken-value t _ _ e ∙ simp (eq-eqb _ _ h) (answered _ _ _)
 
-    pub table-many : (count ≡ 0 → ⊥) → max_symbols < count → run (from_bits seg) table (spot (place c) b) ≡ refused 6 (spot (place c) (place c))
+    pub table-many : (count ≡ 0 → ⊥) → max_symbols < count → run (from_bits seg) table (spot (place c) b) ≡ refused 6
+        (spot (place c) (place c))
     unfolding table
-    table-many h g = at_mark seg _ (place c) b ∙ taken-value t _ _ e ∙ simp (ne_eqb _ _ h, lt-ltb _ _ g) (at-refuse seg 6 (place d) (place c))
+    table-many h g = at_mark seg _ (place c) b ∙ taken-value t _ _ e ∙ simp (ne_eqb _ _ h, lt-ltb _ _ g)
+        (at-refuse seg 6 (place d) (place c))
 
     pub table-some : (count ≡ 0 → ⊥) → count ≤ max_symbols
         → run (from_bits seg) table (spot (place c) b) ≡ run (from_bits seg) (counted count) (spot (place d) (place c))

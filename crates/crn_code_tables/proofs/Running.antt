@@ -47,7 +47,8 @@ long-run last s h = go (ℕ_discrete s 17) (ℕ_discrete s 18) (ℕ_discrete s 1
     go (no a) (no b) (no c) = simp (above, ne_eqb s 17 a, ne_eqb s 18 b, ne_eqb s 19 c, lt-leb s 18 (omega arith))
 
 module _ {seg cl : List ℕ} (last : ℕ) {c : Cursor} {r : Taken} (t : Takes seg (a_symbol cl) c r) (b : ℕ) where
-  pub symbol-failed : {k : ℕ} → r ≡ Failed k → run (from_bits seg) (drawn_run cl last) (spot (place c) b) ≡ refused k (spot (place c) (place c))
+  pub symbol-failed : {k : ℕ} → r ≡ Failed k → run (from_bits seg) (drawn_run cl last) (spot (place c) b) ≡ refused k
+      (spot (place c) (place c))
   symbol-failed e = taken-failed t _ b e
 
   module _ {s : ℕ} {d : Cursor} (e : r ≡ Value s d) where
@@ -56,10 +57,12 @@ module _ {seg cl : List ℕ} (last : ℕ) {c : Cursor} {r : Taken} (t : Takes se
     one-run h = taken-value t _ b e ∙ simp (le-leb _ _ h) (answered _ _ _)
 
     module _ {q : Taken} (u : Takes seg (a_number (extra_of s)) d q) (h : 16 < s) where
-      its_number : run (from_bits seg) (drawn_run cl last) (spot (place c) b) ≡ run (from_bits seg) (number (extra_of s) (longer last s)) (spot (place d) b)
+      its_number : run (from_bits seg) (drawn_run cl last) (spot (place c) b) ≡ run (from_bits seg) (number (extra_of s) (longer last s))
+          (spot (place d) b)
       its_number = taken-value t _ b e ∙ ap (λ (m : Reading (ℕ × ℕ)). run (from_bits seg) m (spot (place d) b)) (long-run last s h)
 
-      pub number-failed : {k : ℕ} → q ≡ Failed k → run (from_bits seg) (drawn_run cl last) (spot (place c) b) ≡ refused 8 (spot (place d) (place d))
+      pub number-failed : {k : ℕ} → q ≡ Failed k → run (from_bits seg) (drawn_run cl last) (spot (place c) b) ≡ refused 8
+          (spot (place d) (place d))
       number-failed f = its_number ∙ number-refused u _ b f
 
       module _ {x : ℕ} {g : Cursor} (f : q ≡ Value x g) where
@@ -71,7 +74,8 @@ module _ {seg cl : List ℕ} (last : ℕ) {c : Cursor} {r : Taken} (t : Takes se
         unfolding again longer_by
         again-none l z = its_number ∙ taken-value u _ b f ∙ simp (lt-leb s 18 l, eq-eqb last 0 z) (at-refuse seg 6 (place g) b)
 
-        pub again-run : 18 < s → (last ≡ 0 → ⊥) → run (from_bits seg) (drawn_run cl last) (spot (place c) b) ≡ got (least_of s + x, last) (spot (place g) b)
+        pub again-run : 18 < s → (last ≡ 0 → ⊥) → run (from_bits seg) (drawn_run cl last) (spot (place c) b) ≡ got (least_of s + x, last)
+            (spot (place g) b)
         unfolding again longer_by
         again-run l z = its_number ∙ taken-value u _ b f ∙ simp (lt-leb s 18 l, ne_eqb last 0 z) (answered _ _ _)
 
@@ -104,7 +108,8 @@ module _ (seg cl : List ℕ) (last p count turns : ℕ) (ls : List ℕ) (b : ℕ
   turn-refused f = turn ∙ stop (from_bits seg) (drawn_run cl last) _ _ f
 
   module _ {n v q : ℕ} (f : run (from_bits seg) (drawn_run cl last) (spot p p) ≡ got (n, v) (spot q p)) where
-    along : run (from_bits seg) (lengths_from cl count turns last ls) (spot p b) ≡ run (from_bits seg) (onward cl count (turns - 1) ls (n, v)) (spot q p)
+    along : run (from_bits seg) (lengths_from cl count turns last ls) (spot p b) ≡ run (from_bits seg)
+        (onward cl count (turns - 1) ls (n, v)) (spot q p)
     along = turn ∙ go_on (from_bits seg) (drawn_run cl last) _ _ f
 
     pub turn-long : count < length ls + n → run (from_bits seg) (lengths_from cl count turns last ls) (spot p b) ≡ refused 6 (spot p p)

@@ -26,17 +26,18 @@ order_at i h = rw (add-one i) (drop-cons length_order i 0 (omega (arith, order_l
 one_less : (n i : ℕ) → i < n → n - i ≡ suc (n - (i + 1))
 one_less n i h = omega arith
 
-module _ {seg : List ℕ} (n i : ℕ) (ls : List ℕ) (b : ℕ) {c : Cursor} {r : Taken} (t : Takes seg (a_number 3) c r) (h : i < n) (few : n ≤ 21) where
-  pub sent-more : {v : ℕ} {d : Cursor} → r ≡ Value v d
-      → run (from_bits seg) (sent_lengths (n - i) (drop i length_order) ls) (spot (place c) b)
-      ≡ run (from_bits seg) (sent_lengths (n - (i + 1)) (drop (i + 1) length_order) (set ls (get_or length_order i 0) v)) (spot (place d) b)
-  unfolding sent_lengths
-  sent-more e = rw (one_less n i h, order_at i (omega arith)) (taken-value t _ b e)
+module _ {seg : List ℕ} (n i : ℕ) (ls : List ℕ) (b : ℕ) {c : Cursor} {r : Taken} (t : Takes seg (a_number 3) c r) (h : i < n) (few : n ≤ 21)
+  where
+    pub sent-more : {v : ℕ} {d : Cursor} → r ≡ Value v d
+        → run (from_bits seg) (sent_lengths (n - i) (drop i length_order) ls) (spot (place c) b)
+        ≡ run (from_bits seg) (sent_lengths (n - (i + 1)) (drop (i + 1) length_order) (set ls (get_or length_order i 0) v)) (spot (place d) b)
+    unfolding sent_lengths
+    sent-more e = rw (one_less n i h, order_at i (omega arith)) (taken-value t _ b e)
 
-  pub sent-failed : {k : ℕ} → r ≡ Failed k
-      → run (from_bits seg) (sent_lengths (n - i) (drop i length_order) ls) (spot (place c) b) ≡ refused 8 (spot (place c) (place c))
-  unfolding sent_lengths
-  sent-failed e = rw (one_less n i h, order_at i (omega arith)) (number-refused t _ b e)
+    pub sent-failed : {k : ℕ} → r ≡ Failed k
+        → run (from_bits seg) (sent_lengths (n - i) (drop i length_order) ls) (spot (place c) b) ≡ refused 8 (spot (place c) (place c))
+    unfolding sent_lengths
+    sent-failed e = rw (one_less n i h, order_at i (omega arith)) (number-refused t _ b e)
 
 pub sent_done : (seg : List ℕ) (n i : ℕ) (ls : List ℕ) (p b : ℕ) → n ≤ i
     → run (from_bits seg) (sent_lengths (n - i) (drop i length_order) ls) (spot p b) ≡ got ls (spot p b)

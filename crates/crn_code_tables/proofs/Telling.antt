@@ -30,12 +30,14 @@ module _ {A : Type 0} (k p : ℕ) (a : A) (b : ℕ) where
   said-refused e = simp (ne_eqb _ _ e)
 
 module _ (seg : List ℕ) (home : Cursor) (lent : List ℕ) where
-  pub tells_declined : {o : Step Place (List ℕ)} {r : Received} {k p : ℕ} → o ≡ refused k (spot p p) → 0 < k → r ≡ declined home k p → Tells seg home o r lent
+  pub tells_declined : {o : Step Place (List ℕ)} {r : Received} {k p : ℕ} → o ≡ refused k (spot p p) → 0 < k → r ≡ declined home k p → Tells
+      seg home o r lent
   tells_declined {r = r} {k = k} {p = p} e h d =
       let at : r.at ≡ p = ap (λ (x : Received). x.at) d in
       rw e (record { some = h; names = rw at; is = d ∙ ap (declined home k) (sym at) })
 
-  pub tells_accepted : {o : Step Place (List ℕ)} {r : Received} {ls : List ℕ} {w : Place} → o ≡ got ls w → Accepts seg ls w.at r lent → Tells seg home o r lent
+  pub tells_accepted : {o : Step Place (List ℕ)} {r : Received} {ls : List ℕ} {w : Place} → o ≡ got ls w → Accepts seg ls w.at r lent →
+      Tells seg home o r lent
   tells_accepted e a = rw e a
 
   -- what one function tells, its caller tells
@@ -52,7 +54,8 @@ module _ (seg : List ℕ) (c : Cursor) (r : Received) (left : List ℕ) (t : Tel
   pub receives : r.refusal ≡ 0 → Receives seg c r left
   receives z = go (run (from_bits seg) table (spot (place c) (place c))) (once seg (place c)) (t (place c))
     where
-      go : (o : Step Place (List ℕ)) → ((b : ℕ) → run (from_bits seg) table (spot (place c) b) ≡ o) → Tells seg c o r left → Receives seg c r left
+      go : (o : Step Place (List ℕ)) → ((b : ℕ) → run (from_bits seg) table (spot (place c) b) ≡ o) → Tells seg c o r left → Receives seg c
+          r left
       go (got ls w) e a =
           let l : lengths_of (held_by r left) ≡ ls = ap lengths_of a.table ∙ take-append_seam ls _ in
           record {
@@ -74,7 +77,8 @@ module _ (seg : List ℕ) (c : Cursor) (r : Received) (left : List ℕ) (t : Tel
   pub declines : (after : List ℕ) → (r.refusal ≡ 0 → ⊥) → after ≡ replicate max_symbols 0 → Receives seg c r after
   declines after z cleared = go (run (from_bits seg) table (spot (place c) (place c))) (once seg (place c)) (t (place c))
     where
-      go : (o : Step Place (List ℕ)) → ((b : ℕ) → run (from_bits seg) table (spot (place c) b) ≡ o) → Tells seg c o r left → Receives seg c r after
+      go : (o : Step Place (List ℕ)) → ((b : ℕ) → run (from_bits seg) table (spot (place c) b) ≡ o) → Tells seg c o r left → Receives seg c
+          r after
       go (got ls w) e a = absurd (z a.none)
       go (refused k w) e d =
           let k-is : r.refusal ≡ k = ap (λ (x : Received). x.refusal) d.is in

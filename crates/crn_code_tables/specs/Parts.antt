@@ -2,7 +2,7 @@
 use Rattle.std.specs.Prelude.{ℕ, ◌-◌, ◌<◌, true, ◌≡◌, List, [], length, take, drop, replicate, eqb}
 use Rattle.crn_format.specs.Choice.{pick}
 use Rattle.crn_format.specs.Limits.{max_symbols}
-use Rattle.crn_format.specs.Codes.{room as roomOf, all_fit}
+use Rattle.crn_format.specs.Codes.{room as room_of, all_fit}
 use Rattle.crn_format.specs.Reading.{Reading, next, Step, got, refused, Place, spot, run, from_bits}
 use Rattle.crn_format.specs.Tables.{length_order, sent_lengths, lengths_from, checked}
 use Rattle.crn_format.specs.Opening.{table_of}
@@ -40,7 +40,7 @@ pub record Runs (lookup sorted seg : List ℕ) (c : Cursor) (count : ℕ) (r : R
       ≡ said r.refusal (place r.cursor) (take count lent) blamed
   pub rest : r.refusal ≡ 0 → drop count lent ≡ replicate (max_symbols - count) 0
   pub fits : r.refusal ≡ 0 → all_fit (take count lent) count ≡ true
-  pub room : r.refusal ≡ 0 → r.room ≡ roomOf (take count lent) count
+  pub room : r.refusal ≡ 0 → r.room ≡ room_of (take count lent) count
 
 -- all runs of `count` lengths, which have to make a code
 abbrev pub all_runs : List ℕ → ℕ → Reading (List ℕ)

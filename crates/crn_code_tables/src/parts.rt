@@ -4,7 +4,7 @@ ghost use Rattle.std.proofs.Math.Seq.{paste};
 ghost use Rattle.crn_format.specs.Limits.{max_symbols, max_length, too_long};
 ghost use Rattle.crn_format.specs.Reading.{spot, run, from_bits};
 ghost use Rattle.crn_format.specs.Tables.{coded, counted, table};
-ghost use Rattle.crn_symbol_codec.specs.Cursors.{place as «place_of», Holds};
+ghost use Rattle.crn_symbol_codec.specs.Cursors.{place as place_of, Holds};
 ghost use Rattle.crn_symbol_codec.specs.Decoders.{Decodes, SomeCode};
 ghost use Rattle.crn_static_huffman_data_model.specs.Building.{share_of};
 ghost use Rattle.crn_code_tables.specs.Parts.{Sends, extra_of, least_of, Runs, all_runs, declined, Tells, TellsAt};
@@ -34,7 +34,7 @@ struct Ran {
 fn refused(seg: &[u8], number: u32, at: Cursor, home: Cursor) -> Received
     requires holds { Holds seg.now at }
     requires seg_long { length seg.now < too_long }
-    ensures { result ≡ declined home number («place_of» at) }
+    ensures { result ≡ declined home number (place_of at) }
 {
     Received {
         refusal: number,
@@ -236,7 +236,7 @@ fn table_by_runs(
     requires count_in { count ≤ max_symbols }
     requires some_code { SomeCode lookup.now sorted.now }
     requires lengths_zero { lengths.old ≡ replicate max_symbols 0 }
-    ensures { (cl : List ℕ) → Decodes cl lookup.now sorted.now → Tells seg.now home (run (from_bits seg.now) (all_runs cl count) (spot («place_of» c) («place_of» c))) result lengths.new }
+    ensures { (cl : List ℕ) → Decodes cl lookup.now sorted.now → Tells seg.now home (run (from_bits seg.now) (all_runs cl count) (spot (place_of c) (place_of c))) result lengths.new }
 {
     let ran = lengths_by_runs(lookup, sorted, seg, c, count, lengths);
     let at = ran.cursor;

@@ -28,7 +28,8 @@ abbrev pub digit : ℕ → ℕ → ℕ → ℕ
 digit b n i = n / 2 ^ (b * i) % 2 ^ b
 
 -- a function that passes the test at each number of the table is the table
-pub computed : (f : ℕ → ℕ) (table : List ℕ) (i : ℕ) → T (up_to (λ k. eqb (f k) (get_or table k 0)) (length table)) → i < length table → f i ≡ get_or table i 0
+pub computed : (f : ℕ → ℕ) (table : List ℕ) (i : ℕ) → T (up_to (λ k. eqb (f k) (get_or table k 0)) (length table)) → i < length table → f i
+    ≡ get_or table i 0
 computed f table i t h = eqb→eq (f i) (get_or table i 0) (each_up_to (λ k. eqb (f k) (get_or table k 0)) (length table) i t h)
 
 pub past_end : (table : List ℕ) (i : ℕ) → length table ≤ i → 0 ≡ get_or table i 0

@@ -32,9 +32,17 @@ place_in n words k room h = omega (arith, further n h)
 
 pub able-kept : {s : Sizes} {m n m' n' : ℕ} → Able s m n → m' ≡ m → n' ≡ n → Able s m' n'
 able-kept able e f =
-    record { some = able.some; few = able.few; entries = able.entries; lookups = omega (arith, able.lookups); sorteds = omega (arith, able.sorteds) }
+    record {
+      some = able.some;
+      few = able.few;
+      entries = able.entries;
+      lookups = omega (arith, able.lookups);
+      sorteds = omega
+          (arith, able.sorteds);
+    }
 
-pub coded-at : {cs : ℕ → List ℕ} {m n : ℕ} {s : Sizes} {lookup sorted : List ℕ} → m ≡ n → CodedTo cs m s lookup sorted → CodedTo cs n s lookup sorted
+pub coded-at : {cs : ℕ → List ℕ} {m n : ℕ} {s : Sizes} {lookup sorted : List ℕ} → m ≡ n → CodedTo cs m s lookup sorted → CodedTo cs n s
+    lookup sorted
 coded-at e coded = record { each = λ k h. coded.each k (omega arith) }
 
 module _ (cs : ℕ → List ℕ) (k : ℕ) (s : Sizes) (lookup sorted ys zs us vs : List ℕ) where
@@ -43,14 +51,17 @@ module _ (cs : ℕ → List ℕ) (k : ℕ) (s : Sizes) (lookup sorted ys zs us v
       → CodedTo cs (k + 1) s (take (k * s.lookup_step) lookup ++ (ys ++ zs)) (take (k * s.sorted_step) sorted ++ (us ++ vs))
   one_more fits₁ fits₂ long₁ long₂ is decodes before = record { each = λ j h. by j h (ℕ_discrete j k) }
     where
-      here : Decodes (cs k) (part s.lookup_step (take (k * s.lookup_step) lookup ++ (ys ++ zs)) k) (part s.sorted_step (take (k * s.sorted_step) sorted ++ (us ++ vs)) k)
+      here : Decodes (cs k) (part s.lookup_step (take (k * s.lookup_step) lookup ++ (ys ++ zs)) k)
+          (part s.sorted_step (take (k * s.sorted_step) sorted ++ (us ++ vs)) k)
       here = rw (part-here s.lookup_step lookup k fits₁ ys zs long₁, part-here s.sorted_step sorted k fits₂ us vs long₂, is) decodes
 
-      by : (j : ℕ) → j < k + 1 → Dec (j ≡ k) → Decodes (cs j) (part s.lookup_step (take (k * s.lookup_step) lookup ++ (ys ++ zs)) j) (part s.sorted_step (take (k * s.sorted_step) sorted ++ (us ++ vs)) j)
+      by : (j : ℕ) → j < k + 1 → Dec (j ≡ k) → Decodes (cs j) (part s.lookup_step (take (k * s.lookup_step) lookup ++ (ys ++ zs)) j)
+          (part s.sorted_step (take (k * s.sorted_step) sorted ++ (us ++ vs)) j)
       by j h (yes e) = rw e here
       by j h (no ne) =
           let l : j < k = omega arith in
-          rw (part-before s.lookup_step lookup k fits₁ j l (ys ++ zs), part-before s.sorted_step sorted k fits₂ j l (us ++ vs)) (before.each j l)
+          rw (part-before s.lookup_step lookup k fits₁ j l (ys ++ zs), part-before s.sorted_step sorted k fits₂ j l (us ++ vs))
+          (before.each j l)
 
 -- ---- tables that hold
 
@@ -58,7 +69,8 @@ none_fit : (ls : List ℕ) (n : ℕ) → n ≡ 0 → all_fit (take n ls) (length
 unfolding all_fit
 none_fit ls n e = rw e
 
-either-fits : (ls : List ℕ) (n : ℕ) (none : Bool) → eqb n 0 ≡ none → either none (is_code (take n ls)) ≡ true → all_fit (take n ls) (length (take n ls)) ≡ true
+either-fits : (ls : List ℕ) (n : ℕ) (none : Bool) → eqb n 0 ≡ none → either none (is_code (take n ls)) ≡ true → all_fit (take n ls)
+    (length (take n ls)) ≡ true
 either-fits ls n true e h = none_fit ls n (eqb-true n 0 e)
 either-fits ls n false e h = (both_hold (all_fit (take n ls) (length (take n ls))) _ h).0
 
@@ -86,14 +98,21 @@ all_fair t room long h few =
     }
 
 -- the code's test of five counts
-pub few-all : (c : Counts) → ((((leb c.chunk 1024 && leb c.color_ends 1024) && leb c.color_sels 1024) && leb c.alpha_ends 1024) && leb c.alpha_sels 1024) ≡ true
+pub few-all : (c : Counts) → ((((leb c.chunk 1024 && leb c.color_ends 1024) && leb c.color_sels 1024) && leb c.alpha_ends 1024) && leb
+    c.alpha_sels 1024) ≡ true
     → Few c 1024
 few-all c e =
     let p4 = and_hold _ (leb c.alpha_sels 1024) e in
     let p3 = and_hold _ (leb c.alpha_ends 1024) p4.0 in
     let p2 = and_hold _ (leb c.color_sels 1024) p3.0 in
     let p1 = and_hold (leb c.chunk 1024) (leb c.color_ends 1024) p2.0 in
-    record { chunk = leb-true _ _ p1.0; color_ends = leb-true _ _ p1.1; color_sels = leb-true _ _ p2.1; alpha_ends = leb-true _ _ p3.1; alpha_sels = leb-true _ _ p4.1 }
+    record {
+      chunk = leb-true _ _ p1.0;
+      color_ends = leb-true _ _ p1.1;
+      color_sels = leb-true _ _ p2.1;
+      alpha_ends = leb-true _ _ p3.1;
+      alpha_sels = leb-true _ _ p4.1;
+    }
 
 -- a table that holds is for 8,192 symbols at most
 pub at_most : (t : Tables) → tables_hold t ≡ true → Few (counts_of t) max_symbols
@@ -117,23 +136,34 @@ module _ (c : Counts) (chunk color_ends color_sels alpha_ends alpha_sels : List 
     (first : (cs : ℕ → List ℕ) → cs 0 ≡ take c.chunk chunk → CodedTo cs 0 s l₀ s₀ → CodedTo cs 1 s l₁ s₁) where
   begun : (alpha : Bool) → CodedTo (codes_by alpha c chunk color_ends color_sels alpha_ends alpha_sels) 1 s l₁ s₁
   unfolding codes_by nth_list
-  begun alpha = first (codes_by alpha c chunk color_ends color_sels alpha_ends alpha_sels) refl (record { each = λ k h. absurd (omega arith) })
+  begun alpha = first (codes_by alpha c chunk color_ends color_sels alpha_ends alpha_sels) refl
+      (record { each = λ k h. absurd (omega arith) })
 
-  pub color-only : {l₂ s₂ : List ℕ} → ((cs : ℕ → List ℕ) → cs 1 ≡ take c.color_ends color_ends → cs 2 ≡ take c.color_sels color_sels → CodedTo cs 1 s l₁ s₁ → CodedTo cs 3 s l₂ s₂)
-      → (color alpha : Bool) → alpha ≡ false → CodedTo (codes_by alpha c chunk color_ends color_sels alpha_ends alpha_sels) (tables_in color alpha) s l₂ s₂
+  pub color-only : {l₂ s₂ : List ℕ} → ((cs : ℕ → List ℕ) → cs 1 ≡ take c.color_ends color_ends → cs 2 ≡ take c.color_sels color_sels →
+      CodedTo cs 1 s l₁ s₁ → CodedTo cs 3 s l₂ s₂)
+      → (color alpha : Bool) → alpha ≡ false → CodedTo (codes_by alpha c chunk color_ends color_sels alpha_ends alpha_sels)
+      (tables_in color alpha) s l₂ s₂
   color-only more color true e = absurd (false≢true (sym e))
-  color-only more true false e = unfold codes_by nth_list in more (codes_by false c chunk color_ends color_sels alpha_ends alpha_sels) refl refl (begun false)
-  color-only more false false e = unfold codes_by nth_list in more (codes_by false c chunk color_ends color_sels alpha_ends alpha_sels) refl refl (begun false)
+  color-only more true false e = unfold codes_by nth_list in more (codes_by false c chunk color_ends color_sels alpha_ends alpha_sels) refl
+      refl (begun false)
+  color-only more false false e = unfold codes_by nth_list in more (codes_by false c chunk color_ends color_sels alpha_ends alpha_sels) refl
+      refl (begun false)
 
-  module _ {l₂ s₂ : List ℕ} (more : (cs : ℕ → List ℕ) → cs 1 ≡ take c.alpha_ends alpha_ends → cs 2 ≡ take c.alpha_sels alpha_sels → CodedTo cs 1 s l₁ s₁ → CodedTo cs 3 s l₂ s₂) where
-    pub alpha-only : (color alpha : Bool) → alpha ≡ true → color ≡ false → CodedTo (codes_by alpha c chunk color_ends color_sels alpha_ends alpha_sels) (tables_in color alpha) s l₂ s₂
+  module _ {l₂ s₂ : List ℕ} (more : (cs : ℕ → List ℕ) → cs 1 ≡ take c.alpha_ends alpha_ends → cs 2 ≡ take c.alpha_sels alpha_sels → CodedTo
+      cs 1 s l₁ s₁ → CodedTo cs 3 s l₂ s₂) where
+    pub alpha-only : (color alpha : Bool) → alpha ≡ true → color ≡ false → CodedTo
+        (codes_by alpha c chunk color_ends color_sels alpha_ends alpha_sels) (tables_in color alpha) s l₂ s₂
     alpha-only color false e f = absurd (false≢true e)
     alpha-only true true e f = absurd (false≢true (sym f))
-    alpha-only false true e f = unfold codes_by nth_list in more (codes_by true c chunk color_ends color_sels alpha_ends alpha_sels) refl refl (begun true)
+    alpha-only false true e f = unfold codes_by nth_list in more (codes_by true c chunk color_ends color_sels alpha_ends alpha_sels) refl
+        refl (begun true)
 
     pub both-planes : {l₃ s₃ : List ℕ}
-        → ((cs : ℕ → List ℕ) → cs 3 ≡ take c.color_ends color_ends → cs 4 ≡ take c.color_sels color_sels → CodedTo cs 3 s l₂ s₂ → CodedTo cs 5 s l₃ s₃)
-        → (color alpha : Bool) → alpha ≡ true → color ≡ true → CodedTo (codes_by alpha c chunk color_ends color_sels alpha_ends alpha_sels) (tables_in color alpha) s l₃ s₃
+        → ((cs : ℕ → List ℕ) → cs 3 ≡ take c.color_ends color_ends → cs 4 ≡ take c.color_sels color_sels → CodedTo cs 3 s l₂ s₂ → CodedTo cs
+        5 s l₃ s₃)
+        → (color alpha : Bool) → alpha ≡ true → color ≡ true → CodedTo (codes_by alpha c chunk color_ends color_sels alpha_ends alpha_sels)
+        (tables_in color alpha) s l₃ s₃
     both-planes last color false e f = absurd (false≢true e)
     both-planes last false true e f = absurd (false≢true f)
-    both-planes last true true e f = unfold codes_by nth_list in last (codes_by true c chunk color_ends color_sels alpha_ends alpha_sels) refl refl (more (codes_by true c chunk color_ends color_sels alpha_ends alpha_sels) refl refl (begun true))
+    both-planes last true true e f = unfold codes_by nth_list in last (codes_by true c chunk color_ends color_sels alpha_ends alpha_sels)
+        refl refl (more (codes_by true c chunk color_ends color_sels alpha_ends alpha_sels) refl refl (begun true))

@@ -23,16 +23,63 @@ pub record Sized (c : Counts) (s : Sizes) : Type 0 where
 sized_by : (c : Counts) (few small tiny wide : Bool) → all_few c ≡ few
     → Sized c (pick few (pick small (record { most = pick tiny 5 8; lookup_step = 288; sorted_step = 1024 })
     (record { most = 11; lookup_step = 2080; sorted_step = 1024 }))
-    (pick wide (record { most = 12; lookup_step = 4128; sorted_step = 8192 }) (record { most = 11; lookup_step = 2080; sorted_step = 8192 })))
-sized_by c true true true wide e = record { some = omega arith; few = omega arith; entries = omega arith; words = omega arith; fewer = λ _. omega arith; symbols = omega arith; room = λ _. few-all c e }
-sized_by c true true false wide e = record { some = omega arith; few = omega arith; entries = omega arith; words = omega arith; fewer = λ _. omega arith; symbols = omega arith; room = λ _. few-all c e }
-sized_by c true false tiny wide e = record { some = omega arith; few = omega arith; entries = omega arith; words = omega arith; fewer = λ _. omega arith; symbols = omega arith; room = λ _. few-all c e }
-sized_by c false small tiny true e = record { some = omega arith; few = omega arith; entries = omega arith; words = omega arith; fewer = λ h. omega arith; symbols = omega arith; room = λ h. h }
-sized_by c false small tiny false e = record { some = omega arith; few = omega arith; entries = omega arith; words = omega arith; fewer = λ _. omega arith; symbols = omega arith; room = λ h. h }
+    (pick wide (record { most = 12; lookup_step = 4128; sorted_step = 8192 })
+    (record { most = 11; lookup_step = 2080; sorted_step = 8192 })))
+sized_by c true true true wide e = record {
+  some = omega arith;
+  few = omega arith;
+  entries = omega arith;
+  words = omega arith;
+  fewer = λ _.
+      omega arith;
+  symbols = omega arith;
+  room = λ _. few-all c e;
+}
+sized_by c true true false wide e = record {
+  some = omega arith;
+  few = omega arith;
+  entries = omega arith;
+  words = omega arith;
+  fewer = λ _.
+      omega arith;
+  symbols = omega arith;
+  room = λ _. few-all c e;
+}
+sized_by c true false tiny wide e = record {
+  some = omega arith;
+  few = omega arith;
+  entries = omega arith;
+  words = omega arith;
+  fewer = λ _.
+      omega arith;
+  symbols = omega arith;
+  room = λ _. few-all c e;
+}
+sized_by c false small tiny true e = record {
+  some = omega arith;
+  few = omega arith;
+  entries = omega arith;
+  words = omega arith;
+  fewer = λ
+      h. omega arith;
+  symbols = omega arith;
+  room = λ h. h;
+}
+sized_by c false small tiny false e = record {
+  some = omega arith;
+  few = omega arith;
+  entries = omega arith;
+  words = omega arith;
+  fewer = λ
+      _. omega arith;
+  symbols = omega arith;
+  room = λ h. h;
+}
 
 pub sized : (c : Counts) (columns rows : ℕ) {s : Sizes} → s ≡ sizes_for c columns rows → Sized c s
 unfolding sizes_for
-sized c columns rows e = rw e (sized_by c (all_few c) (leb columns 16 && leb rows 16) (leb columns 4 && leb rows 4) (wide_for c columns rows) refl)
+sized c columns rows e = rw e (sized_by c (all_few c) (leb columns 16 && leb rows 16) (leb columns 4 && leb rows 4)
+    (wide_for c columns rows) refl)
 
 -- there is room for five of them in arrays for five of m words and of n symbols
 pub able_in : {c : Counts} {s : Sizes} (m n : ℕ) → Sized c s → s.lookup_step ≤ m → s.sorted_step ≤ n → Able s (5 * m) (5 * n)

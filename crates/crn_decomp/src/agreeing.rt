@@ -1,7 +1,7 @@
 // Whether a record is what the look finds in a file, in every field (document 02, request 2: "since workers have passed the wrong one").
 ghost use Rattle.std.specs.Prelude.{◌≡◌, eqb};
 ghost use Rattle.crn_format.specs.Loading.{same_all, same_part, same_sizes, same_kind, same_parts, same_levels, same_header};
-ghost use Rattle.crn_format.specs.Loading.{agrees as «agreesWith»};
+ghost use Rattle.crn_format.specs.Loading.{agrees as agrees_with};
 
 use crate::header_look::look;
 use crn_format::{Header, Part};
@@ -82,7 +82,7 @@ fn same_header(a: Header, b: Header) -> bool
 
 // "The load checks again that the record equals what this file's header says": not so where the look refuses the file.
 pub fn agrees(header: Header, file: &[u8]) -> bool
-    ensures { result ≡ «agreesWith» header file.now }
+    ensures { result ≡ agrees_with header file.now }
 {
     let looked = look(file);
     (looked.refusal == 0) & same_header(header, looked.header)

@@ -31,14 +31,17 @@ kind_in r = kind_of r.header.format
 abbrev Ready : Record → Sizes → List ℕ → List ℕ → Type 0
 Ready r s lookup sorted = CodedTo (codes_in r) (tables_for r.header) s lookup sorted
 
-pub ready_by : (r : Record) {s : Sizes} {lookup sorted : List ℕ} {color alpha : Bool} {counts : Counts} → color ≡ has_color (kind_in r) → alpha ≡ has_alpha (kind_in r)
+pub ready_by : (r : Record) {s : Sizes} {lookup sorted : List ℕ} {color alpha : Bool} {counts : Counts} → color ≡ has_color (kind_in r) →
+    alpha ≡ has_alpha (kind_in r)
     → counts ≡ counts_of r.tables
-    → CodedTo (codes_by alpha counts r.tables.chunk_encoding.lengths r.tables.color_endpoint_delta.lengths r.tables.color_selector_delta.lengths
+    → CodedTo (codes_by alpha counts r.tables.chunk_encoding.lengths r.tables.color_endpoint_delta.lengths
+    r.tables.color_selector_delta.lengths
     r.tables.alpha_endpoint_delta.lengths r.tables.alpha_selector_delta.lengths) (tables_in color alpha) s lookup sorted
     → Ready r s lookup sorted
 ready_by r e₁ e₂ e₃ coded = rw (e₁, e₂, e₃) at coded
 
-module _ (r : Record) (s : Sizes) (lookup sorted seg ends sels alpha_ends alpha_sels : List ℕ) (g : Grid) {n : ℕ} (checked : Checked r seg (lent_of ends sels alpha_ends alpha_sels) g n) where
+module _ (r : Record) (s : Sizes) (lookup sorted seg ends sels alpha_ends alpha_sels : List ℕ) (g : Grid) {n : ℕ}
+    (checked : Checked r seg (lent_of ends sels alpha_ends alpha_sels) g n) where
   abbrev palettes : Palettes
   palettes = lent_of ends sels alpha_ends alpha_sels
 
@@ -57,22 +60,33 @@ module _ (r : Record) (s : Sizes) (lookup sorted seg ends sels alpha_ends alpha_
       })
 
   same-level : (budget : ℕ) (d : List ℕ)
-      → ended_by (kind_in r) (codes_in r) (given lookup sorted seg ends sels alpha_ends alpha_sels (planes_for r.header s) g) budget d ≡ drawn_level r seg palettes g budget d
+      → ended_by (kind_in r) (codes_in r) (given lookup sorted seg ends sels alpha_ends alpha_sels (planes_for r.header s) g) budget d ≡
+      drawn_level r seg palettes g budget d
   unfolding drawn_level
-  same-level budget d = rw (shades_by r s palettes (kind_in r) limits.known, planes_by_lem r s (kind_in r) limits.known, chunk-code (has_alpha (kind_in r)) r.tables)
+  same-level budget d = rw (
+    shades_by r s palettes (kind_in r) limits.known,
+    planes_by_lem r s (kind_in r) limits.known,
+    chunk-code
+        (has_alpha (kind_in r)) r.tables,
+  )
 
   coded_by : Ready r s lookup sorted → Coded (codes_in r) (planes_for r.header s) lookup sorted
   unfolding planes_by
   coded_by ready = ready.each
 
-  pub level_by : Ready r s lookup sorted → {ps : Planes} → ps ≡ planes_for r.header s → {budget left : ℕ} (d : List ℕ) {e : List ℕ} {u : Unpacked}
-      → ((cs : ℕ → List ℕ) → Coded cs ps lookup sorted → Unpacks (ended_by (kind_in r) cs (given lookup sorted seg ends sels alpha_ends alpha_sels ps g) budget d) budget left e u)
+  pub level_by : Ready r s lookup sorted → {ps : Planes} → ps ≡ planes_for r.header s → {budget left : ℕ} (d : List ℕ) {e : List ℕ}
+      {u : Unpacked}
+      → ((cs : ℕ → List ℕ) → Coded cs ps lookup sorted → Unpacks
+      (ended_by (kind_in r) cs (given lookup sorted seg ends sels alpha_ends alpha_sels ps g) budget d) budget left e u)
       → Unpacks (drawn_level r seg palettes g budget d) budget left e u
   level_by ready {ps} is {budget} {left} d {e} {u} h =
       subst (λ (x : Unpacking). Unpacks x budget left e u) (same-level budget d) (at-planes h)
     where
-      at-planes : ((cs : ℕ → List ℕ) → Coded cs ps lookup sorted → Unpacks (ended_by (kind_in r) cs (given lookup sorted seg ends sels alpha_ends alpha_sels ps g) budget d) budget left e u)
-          → Unpacks (ended_by (kind_in r) (codes_in r) (given lookup sorted seg ends sels alpha_ends alpha_sels (planes_for r.header s) g) budget d) budget left e u
+      at-planes : ((cs : ℕ → List ℕ) → Coded cs ps lookup sorted → Unpacks
+          (ended_by (kind_in r) cs (given lookup sorted seg ends sels alpha_ends alpha_sels ps g) budget d) budget left e u)
+          → Unpacks (ended_by (kind_in r) (codes_in r) (given lookup sorted seg ends sels alpha_ends alpha_sels (planes_for r.header s) g)
+          budget d) budget left e u
       at-planes k =
-          subst (λ (p : Planes). ((cs : ℕ → List ℕ) → Coded cs p lookup sorted → Unpacks (ended_by (kind_in r) cs (given lookup sorted seg ends sels alpha_ends alpha_sels p g) budget d) budget left e u)) is k
+          subst (λ (p : Planes). ((cs : ℕ → List ℕ) → Coded cs p lookup sorted → Unpacks
+          (ended_by (kind_in r) cs (given lookup sorted seg ends sels alpha_ends alpha_sels p g) budget d) budget left e u)) is k
           (codes_in r) (coded_by ready)

@@ -42,7 +42,8 @@ module _ (l : Given) (c : Cursor) (all : ℕ) (at_first : place c ≡ 0) (d e : 
     from_first k = rw at_first
 
     falls : left_of (levelRun l cs (first c all)) ≤ all
-    falls = left_falls (from_bits l.seg) (level (cs 0) (planes cs l.planes) (insides l.grid 0 (chunk_count l.grid))) (spending (first c all))
+    falls = left_falls (from_bits l.seg) (level (cs 0) (planes cs l.planes) (insides l.grid 0 (chunk_count l.grid)))
+        (spending (first c all))
 
     on_falls : (r : Carried) (t : Stream) → w ≡ On r t → t.left ≤ all
     on_falls r t is = subst (λ (x : Step Spending (List Chunk)). left_of x ≤ all) (through goes cs coded fit is).runs falls
@@ -69,7 +70,8 @@ module _ (l : Given) (c : Cursor) (all : ℕ) (at_first : place c ≡ 0) (d e : 
       cut DXN = refl
       cut unknown = refl
 
-      ended-whole : (k : Kind) → ended_by k cs l all d ≡ unpacked (all - t.left) (cutout_count k l.grid block) (painted l.grid block l.grid.faces d)
+      ended-whole : (k : Kind) → ended_by k cs l all d ≡ unpacked (all - t.left) (cutout_count k l.grid block)
+          (painted l.grid block l.grid.faces d)
       unfolding ended
       ended-whole k = from_first k ∙ ap (ended k l.grid (shades l) all d) went.runs
 
@@ -77,9 +79,11 @@ module _ (l : Given) (c : Cursor) (all : ℕ) (at_first : place c ≡ 0) (d e : 
           ≡ unpacked (all - t.left) (cutout_count k l.grid block) (painted l.grid block l.grid.faces d)
       unfolding answer_of
       answer-whole k =
-          ap (λ (n : ℕ). unpacked (all - t.left) n e) (cut k) ∙ ap (λ (b : List ℕ). unpacked (all - t.left) (cutout_count k l.grid block) b) went.picture
+          ap (λ (n : ℕ). unpacked (all - t.left) n e) (cut k) ∙ ap (λ (b : List ℕ). unpacked (all - t.left) (cutout_count k l.grid block) b)
+          went.picture
 
-      pub unpacked-whole : (k : Kind) {after : ℕ} {u : Unpacked} → Finishes t.left all k l.grid after e u → Unpacks (ended_by k cs l all d) all after e u
+      pub unpacked-whole : (k : Kind) {after : ℕ} {u : Unpacked} → Finishes t.left all k l.grid after e u → Unpacks (ended_by k cs l all d)
+          all after e u
       unpacked-whole k f =
           record {
             answer = ap (λ (v : Unpacked). answer_of v e) f.answer ∙ answer-whole k ∙ sym (ended-whole k);
@@ -94,7 +98,8 @@ module _ (l : Given) (c : Cursor) (all : ℕ) (at_first : place c ≡ 0) (d e : 
     ended-none k x is = from_first k ∙ ap (ended k l.grid (shades l) all d) (early goes cs coded is).runs
 
     answer-none : (x : Stop) (e' : List ℕ) → e' ≡ painted l.grid (blank l.grid) l.grid.faces d
-        → answer_of (Refused x.number (all - x.left) x.at) e' ≡ declined x.number (all - x.left) x.at (painted l.grid (blank l.grid) l.grid.faces d)
+        → answer_of (Refused x.number (all - x.left) x.at) e' ≡ declined x.number (all - x.left) x.at
+        (painted l.grid (blank l.grid) l.grid.faces d)
     unfolding answer_of
     answer-none x e' b = ap (λ (b : List ℕ). declined x.number (all - x.left) x.at b) b
 
@@ -103,7 +108,8 @@ module _ (l : Given) (c : Cursor) (all : ℕ) (at_first : place c ≡ 0) (d e : 
     unpacked-none k x is {after} {e'} {u} f =
         record {
           answer =
-              ap (λ (v : Unpacked). answer_of v e') f.answer ∙ answer-none x e' (f.cleared ∙ wiped fit.room (early goes cs coded is).rest) ∙ sym (ended-none k x is);
+              ap (λ (v : Unpacked). answer_of v e') f.answer ∙ answer-none x e' (f.cleared ∙ wiped fit.room (early goes cs coded is).rest) ∙
+              sym (ended-none k x is);
           spent = rw f.answer (omega (arith, f.budget, stop_falls x is));
         }
 

@@ -26,7 +26,8 @@ unfolding codes_by nth_list
 chunk-code alpha t = refl
 
 module _ (r : Record) (s : Sizes) where
-  pub planes_by_lem : (k : Kind) → known k ≡ true → planes (codes_of (has_alpha k) r.tables) (planes_by k r.header s) ≡ per_plane k (color_plane r) (alpha_plane r)
+  pub planes_by_lem : (k : Kind) → known k ≡ true → planes (codes_of (has_alpha k) r.tables) (planes_by k r.header s) ≡ per_plane k
+      (color_plane r) (alpha_plane r)
   unfolding planes_by plane_of codes_by nth_list per_plane
   planes_by_lem DXT1 e = refl
   planes_by_lem DXT5 e = refl
@@ -35,7 +36,8 @@ module _ (r : Record) (s : Sizes) where
   planes_by_lem unknown e = absurd (false≢true e)
 
   pub shades_by : (p : Palettes) (k : Kind) → known k ≡ true
-      → row (planes_by k r.header s).two (shade_of p (planes_by k r.header s).first) (shade_of p (planes_by k r.header s).second) ≡ shades_of k p
+      → row (planes_by k r.header s).two (shade_of p (planes_by k r.header s).first) (shade_of p (planes_by k r.header s).second) ≡
+      shades_of k p
   unfolding planes_by shade_of per_plane
   shades_by p DXT1 e = refl
   shades_by p DXT5 e = refl
@@ -54,7 +56,8 @@ module _ (r : Record) (s : Sizes) where
   -- ---- the tables serve the planes
 
   module _ (lookup sorted : List ℕ) (few : Limited r.header) (able : Able s (length lookup) (length sorted)) where
-    pub served_by : (k : Kind) → known k ≡ true → CodedTo (codes_of (has_alpha k) r.tables) (tables_in (has_color k) (has_alpha k)) s lookup sorted
+    pub served_by : (k : Kind) → known k ≡ true → CodedTo (codes_of (has_alpha k) r.tables) (tables_in (has_color k) (has_alpha k)) s lookup
+        sorted
         → Served (planes_by k r.header s) lookup sorted
     unfolding planes_by
     served_by DXT1 e coded =
@@ -62,7 +65,11 @@ module _ (r : Record) (s : Sizes) where
           some = omega arith;
           first = record { ends = omega arith; sels = omega arith };
           second = record { ends = omega arith; sels = omega arith };
-          small = (record { endpoints = few.color_ends; selectors = few.color_sels }, record { endpoints = few.color_ends; selectors = few.color_sels });
+          small = (
+            record { endpoints = few.color_ends; selectors = few.color_sels },
+            record
+                { endpoints = few.color_ends; selectors = few.color_sels },
+          );
           lookups = omega (arith, able.lookups);
           sorteds = omega (arith, able.sorteds);
           codes = codes_of false r.tables;
@@ -73,7 +80,11 @@ module _ (r : Record) (s : Sizes) where
           some = omega arith;
           first = record { ends = omega arith; sels = omega arith };
           second = record { ends = omega arith; sels = omega arith };
-          small = (record { endpoints = few.alpha_ends; selectors = few.alpha_sels }, record { endpoints = few.color_ends; selectors = few.color_sels });
+          small = (
+            record { endpoints = few.alpha_ends; selectors = few.alpha_sels },
+            record
+                { endpoints = few.color_ends; selectors = few.color_sels },
+          );
           lookups = omega (arith, able.lookups);
           sorteds = omega (arith, able.sorteds);
           codes = codes_of true r.tables;
@@ -84,7 +95,11 @@ module _ (r : Record) (s : Sizes) where
           some = omega arith;
           first = record { ends = omega arith; sels = omega arith };
           second = record { ends = omega arith; sels = omega arith };
-          small = (record { endpoints = few.alpha_ends; selectors = few.alpha_sels }, record { endpoints = few.alpha_ends; selectors = few.alpha_sels });
+          small = (
+            record { endpoints = few.alpha_ends; selectors = few.alpha_sels },
+            record
+                { endpoints = few.alpha_ends; selectors = few.alpha_sels },
+          );
           lookups = omega (arith, able.lookups);
           sorteds = omega (arith, able.sorteds);
           codes = codes_of true r.tables;
@@ -95,7 +110,11 @@ module _ (r : Record) (s : Sizes) where
           some = omega arith;
           first = record { ends = omega arith; sels = omega arith };
           second = record { ends = omega arith; sels = omega arith };
-          small = (record { endpoints = few.alpha_ends; selectors = few.alpha_sels }, record { endpoints = few.alpha_ends; selectors = few.alpha_sels });
+          small = (
+            record { endpoints = few.alpha_ends; selectors = few.alpha_sels },
+            record
+                { endpoints = few.alpha_ends; selectors = few.alpha_sels },
+          );
           lookups = omega (arith, able.lookups);
           sorteds = omega (arith, able.sorteds);
           codes = codes_of true r.tables;

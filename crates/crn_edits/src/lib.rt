@@ -3,13 +3,13 @@
 
 ghost use Rattle.std.specs.Prelude.{◌≡◌, ◌%◌, set, eqb};
 ghost use Rattle.crn_format.specs.Choice.{pick};
-ghost use Rattle.crn_edits.specs.Edits.{chosen as «chosen_of», part_edited, header_edited, table_edited, tables_edited, record_edited};
+ghost use Rattle.crn_edits.specs.Edits.{chosen as chosen_of, part_edited, header_edited, table_edited, tables_edited, record_edited};
 
 use crn_format::{Header, Part, Record, Table, Tables};
 
 // The value for the field that is edited, the old one for any other.
 fn chosen(field: u32, this: u32, value: u32, old: u32) -> u32
-    ensures { result ≡ «chosen_of» field this value old }
+    ensures { result ≡ chosen_of field this value old }
 {
     if field == this { value } else { old }
 }

@@ -18,25 +18,27 @@ use Rattle.crn_palettes.proofs.Leaving.{Left, left_is, left-drawn, left-failed}
 pub record Summed (seg : List ℕ) (ms : List Sum) (i : ℕ) (vs : List ℕ) (at : Cursor) (whole : Step Place (List ℕ)) : Type 0 where
   pub left : Left seg (summed (drop i ms) i vs) at whole
 
-pub sums_none : (seg : List ℕ) (ms : List Sum) (vs : List ℕ) (c : Cursor) (b : ℕ) → Summed seg ms 0 vs c (run (from_bits seg) (summed ms 0 vs) (spot (place c) b))
+pub sums_none : (seg : List ℕ) (ms : List Sum) (vs : List ℕ) (c : Cursor) (b : ℕ) → Summed seg ms 0 vs c
+    (run (from_bits seg) (summed ms 0 vs) (spot (place c) b))
 sums_none seg ms vs c b = record { left = record { blamed = b; same = refl } }
 
-module _ {seg : List ℕ} {ms : List Sum} {i : ℕ} {vs : List ℕ} {at : Cursor} {whole : Step Place (List ℕ)} (x : Summed seg ms i vs at whole) where
-  module _ {m : Sum} (e : drop i ms ≡ m ∷ drop (i + 1) ms) {r : Taken} (t : Takes seg (a_symbol m.deltas) at r) where
-    -- the next sum's symbol is drawn first
-    sum_first : Left seg (draw m.deltas λ s. summed (drop (i + 1) ms) (i + 1) (set vs i ((get_or vs i 0 + s) % m.modulus))) at whole
+module _ {seg : List ℕ} {ms : List Sum} {i : ℕ} {vs : List ℕ} {at : Cursor} {whole : Step Place (List ℕ)} (x : Summed seg ms i vs at whole)
+  where
+    module _ {m : Sum} (e : drop i ms ≡ m ∷ drop (i + 1) ms) {r : Taken} (t : Takes seg (a_symbol m.deltas) at r) where
+      -- the next sum's symbol is drawn first
+      sum_first : Left seg (draw m.deltas λ s. summed (drop (i + 1) ms) (i + 1) (set vs i ((get_or vs i 0 + s) % m.modulus))) at whole
+      unfolding summed
+      sum_first = left_is (ap (λ (y : List Sum). summed y i vs) e) x.left
+
+      pub sum_more : {s v : ℕ} {d : Cursor} → r ≡ Value s d → v ≡ (get_or vs i 0 + s) % m.modulus → Summed seg ms (i + 1) (set vs i v) d whole
+      sum_more f g = record { left = rw g (left-drawn sum_first t f) }
+
+      pub sum-failed : {n : ℕ} → r ≡ Failed n → whole ≡ refused n (spot (place at) (place at))
+      sum-failed f = left-failed sum_first t f
+
+    pub sums_done : drop i ms ≡ [] → Left seg (answer vs) at whole
     unfolding summed
-    sum_first = left_is (ap (λ (y : List Sum). summed y i vs) e) x.left
-
-    pub sum_more : {s v : ℕ} {d : Cursor} → r ≡ Value s d → v ≡ (get_or vs i 0 + s) % m.modulus → Summed seg ms (i + 1) (set vs i v) d whole
-    sum_more f g = record { left = rw g (left-drawn sum_first t f) }
-
-    pub sum-failed : {n : ℕ} → r ≡ Failed n → whole ≡ refused n (spot (place at) (place at))
-    sum-failed f = left-failed sum_first t f
-
-  pub sums_done : drop i ms ≡ [] → Left seg (answer vs) at whole
-  unfolding summed
-  sums_done e = left_is (ap (λ (y : List Sum). summed y i vs) e) x.left
+    sums_done e = left_is (ap (λ (y : List Sum). summed y i vs) e) x.left
 
 -- ---- the sums of the alpha endpoints
 
@@ -52,7 +54,8 @@ alpha-ended t i h = drop_of_length-le (alpha_sums t) {i = i} h
 
 -- ---- the sums of the colour endpoints
 
-color-sum-at : (five six : List ℕ) (i : ℕ) → i < 6 → drop i (color_sums five six) ≡ record { deltas = pick (six_bits i) six five; modulus = modulus_of (six_bits i) } ∷ drop (i + 1) (color_sums five six)
+color-sum-at : (five six : List ℕ) (i : ℕ) → i < 6 → drop i (color_sums five six) ≡ record
+    { deltas = pick (six_bits i) six five; modulus = modulus_of (six_bits i) } ∷ drop (i + 1) (color_sums five six)
 unfolding color_sums
 color-sum-at five six zero h = refl
 color-sum-at five six (suc zero) h = refl
@@ -71,7 +74,8 @@ unfolding color_sums
 color-ended t i h = drop_of_length-le (color_sums t.0 t.1) {i = i} h
 
 -- a sum stays below its modulus
-pub small-more : (vs : List ℕ) (i : ℕ) {v : ℕ} (n : ℕ) {wide : Bool} → Small vs → wide ≡ six_bits i → v ≡ n % modulus_of wide → Small (set vs i v)
+pub small-more : (vs : List ℕ) (i : ℕ) {v : ℕ} (n : ℕ) {wide : Bool} → Small vs → wide ≡ six_bits i → v ≡ n % modulus_of wide → Small
+    (set vs i v)
 small-more vs i {v} n {wide} h f e k = go (ℕ_discrete k i) (dec_lt i (length vs))
   where
     positive : (six : Bool) → n % modulus_of six < modulus_of six

@@ -18,7 +18,8 @@ abbrev lent : Palettes
 lent = record { color_ends = 7 ∷ []; color_sels = 7 ∷ []; alpha_ends = []; alpha_sels = 7 ∷ [] }
 
 -- the look: the header, by its first bytes too; 1 of a file that is too short, 2 of a width of 0, 3 of more data than there are bytes
-looks : ((look_of (small 74 4 0)).refusal ≡ 0) × (((look_of (small 74 4 0)).header.width ≡ 4) × ((look_of (small 74 4 0)).header.userdata1 ≡ 0))
+looks : ((look_of (small 74 4 0)).refusal ≡ 0) × (((look_of (small 74 4 0)).header.width ≡ 4) ×
+    ((look_of (small 74 4 0)).header.userdata1 ≡ 0))
 unfolding look_at signed_in header_of field offsets_from kind_of within_limits sizes_in
 looks = (refl, (refl, refl))
 
@@ -37,6 +38,7 @@ loads : (loading (header_of (small 74 4 0)) (small 74 4 0) lent ≡ shut 4 0 len
     × ((loading (header_of (small 74 8 0)) (small 74 4 0) lent ≡ shut 17 0 lent)
     × ((loading (header_of (small 74 4 1)) (small 74 4 0) lent ≡ shut 17 0 lent)
     × (loading (header_of (small 75 4 0)) (small 75 4 0) lent ≡ shut 17 0 lent))))
-unfolding loading opening agrees same_header same_sizes same_kind same_parts same_levels same_part same_all segments_stand look_at signed_in header_of
+unfolding loading opening agrees same_header same_sizes same_kind same_parts same_levels same_part same_all segments_stand look_at signed_in
+    header_of
     field offsets_from kind_of within_limits sizes_in
 loads = (refl, (refl, (refl, (refl, refl))))

@@ -52,7 +52,8 @@ module _ (ok : ℕ → Bool) (six : ok 6 ≡ true) where
   unfolding coded
   from-lengths count n =
       one_then ok (sent_lengths n length_order (replicate 21 0)) _ (sent n length_order (replicate 21 0))
-      (λ cl. one_then ok (checked cl) _ (check cl) (λ _. one_then ok (lengths_from cl count count 0 []) checked (lengths cl count count 0 []) check))
+      (λ cl. one_then ok (checked cl) _ (check cl) (λ _. one_then ok (lengths_from cl count count 0 []) checked
+      (lengths cl count count 0 []) check))
 
   from_count : (count : ℕ) → Refuses ok (counted count)
   unfolding counted Refuses
@@ -79,7 +80,8 @@ module _ (ok : ℕ → Bool) (six : ok 6 ≡ true) where
 
   -- ---- the palettes
 
-  all-entries : (turn : List ℕ → Reading (List ℕ)) (words : List ℕ → List ℕ) → ((vs : List ℕ) → Refuses ok (turn vs)) → (n : ℕ) (vs out : List ℕ)
+  all-entries : (turn : List ℕ → Reading (List ℕ)) (words : List ℕ → List ℕ) → ((vs : List ℕ) → Refuses ok (turn vs)) → (n : ℕ)
+      (vs out : List ℕ)
       → Refuses ok (entries turn words n vs out)
   unfolding entries Refuses
   all-entries turn words h zero vs out = tt

@@ -25,21 +25,25 @@ pub record Passed (a b c d e f g : Bool) : Type 0 where
 -- those of a level, with so many bytes lent for it
 abbrev pub LevelPassed : Record → List ℕ → Palettes → ℕ → ℕ → ℕ → ℕ → Type 0
 LevelPassed r file p n pitch distance lent =
-    Passed (within_limits r.header) (tables_hold r.tables) (ltb n r.header.levels) (level_stands file r.header n) (palettes_reach r.header p)
+    Passed (within_limits r.header) (tables_hold r.tables) (ltb n r.header.levels) (level_stands file r.header n)
+    (palettes_reach r.header p)
     (grid_fits (grid_of r.header n pitch distance)) (leb (reach (grid_of r.header n pitch distance)) lent)
 
 -- one test
-passes : (t : Bool) (u : Unpacking) (m : ℕ) (d : List ℕ) {s c : ℕ} {e : List ℕ} → pick t u (declined m 0 0 d) ≡ unpacked s c e → (t ≡ true) × (u ≡ unpacked s c e)
+passes : (t : Bool) (u : Unpacking) (m : ℕ) (d : List ℕ) {s c : ℕ} {e : List ℕ} → pick t u (declined m 0 0 d) ≡ unpacked s c e → (t ≡ true)
+    × (u ≡ unpacked s c e)
 passes true u m d h = (refl, h)
 passes false u m d h = let z : ◌≡◌ {A = ℕ} 0 1 = cc in absurd (omega arith)
 
 module _ (r : Record) (file : List ℕ) (p : Palettes) (n pitch distance budget : ℕ) (dst : List ℕ) where
   pub passed-drawn : LevelPassed r file p n pitch distance (length dst)
-      → unpacking r file p n pitch distance budget dst ≡ drawn_level r (level_segment file r.header n) p (grid_of r.header n pitch distance) budget dst
+      → unpacking r file p n pitch distance budget dst ≡ drawn_level r (level_segment file r.header n) p (grid_of r.header n pitch distance)
+      budget dst
   unfolding unpacking
   passed-drawn a = simp (a.limits, a.tables, a.number, a.stands, a.palettes, a.grid, a.room)
 
-  pub accepted-passed : {s c : ℕ} {e : List ℕ} → unpacking r file p n pitch distance budget dst ≡ unpacked s c e → LevelPassed r file p n pitch distance (length dst)
+  pub accepted-passed : {s c : ℕ} {e : List ℕ} → unpacking r file p n pitch distance budget dst ≡ unpacked s c e → LevelPassed r file p n
+      pitch distance (length dst)
   unfolding unpacking
   accepted-passed h =
       let p0 = passes (within_limits r.header) _ 2 dst h in

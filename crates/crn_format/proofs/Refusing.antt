@@ -28,7 +28,8 @@ module _ (ok : ℕ → Bool) where
   then-stops (got a w) k h g = g a w
   then-stops (refused n w) k h g = h
 
-  pub run-stops : {S A : Type 0} (src : Source S) → ((x : Want) (w : S) → Stops (src.serve x w)) → (m : Reading A) → Refuses m → (w : S) → Stops (run src m w)
+  pub run-stops : {S A : Type 0} (src : Source S) → ((x : Want) (w : S) → Stops (src.serve x w)) → (m : Reading A) → Refuses m → (w : S) →
+      Stops (run src m w)
   unfolding run Refuses
   run-stops src serves (answer a) h w = tt
   run-stops src serves (refuse n) h w = h
@@ -74,7 +75,8 @@ module _ (ok : ℕ → Bool) where
     budget-stops fifteen m h w = run-stops (budgeted (from_bits seg)) serves m h w
       where
         by : (spent : Bool) (x : Want) (w : Spending)
-            → Stops (pick spent (refused 15 (record { place = spot w.place.at w.place.at; left = w.left })) (charged w.left (served seg x w.place)))
+            → Stops (pick spent (refused 15 (record { place = spot w.place.at w.place.at; left = w.left }))
+            (charged w.left (served seg x w.place)))
         by true x w = fifteen
         by false x w = charge_stops w.left (served seg x w.place) (serve-stops x w.place)
 

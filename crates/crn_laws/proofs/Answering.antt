@@ -41,7 +41,8 @@ halves_long (p ∷ ps) e s k =
 pub blocks-long : (v : Given) (ds : List Draws) (f x y : ℕ) → length (blocks_by v ds f x y) ≡ (grid_in v).bytes
 unfolding block_by grid_of
 blocks-long v ds f x y =
-    halves_long (shades_in v) _ _ 0 ∙ planes-bytes (kind_in v) (color v.palettes.color_ends v.palettes.color_sels) (alpha v.palettes.alpha_ends v.palettes.alpha_sels)
+    halves_long (shades_in v) _ _ 0 ∙ planes-bytes (kind_in v) (color v.palettes.color_ends v.palettes.color_sels)
+    (alpha v.palettes.alpha_ends v.palettes.alpha_sels)
 
 module _ (v : Given) (c : Passes v) where
   module _ (ds : List Draws) (s : ScriptOf v ds) where
@@ -55,11 +56,13 @@ module _ (v : Given) (c : Passes v) where
     -- the blocks of the chunks that are read
     by_chunks : (budget : ℕ) → length (symbols_of v ds) ≤ budget
         → unpacking_in v budget
-        ≡ unpacked (length (symbols_of v ds)) (cutout_count (kind_in v) (grid_in v) read) (painted (grid_in v) read (grid_in v).faces v.destination)
+        ≡ unpacked (length (symbols_of v ds)) (cutout_count (kind_in v) (grid_in v) read)
+        (painted (grid_in v) read (grid_in v).faces v.destination)
     by_chunks budget h =
         let t = took v ds c.tables s in
         with_enough v c budget (rw tried-script h) ∙ ap (answered v) t.answers
-        ∙ ap (λ (n : ℕ). unpacked n (cutout_count (kind_in v) (grid_in v) read) (painted (grid_in v) read (grid_in v).faces v.destination)) (ap length t.takes)
+        ∙ ap (λ (n : ℕ). unpacked n (cutout_count (kind_in v) (grid_in v) read) (painted (grid_in v) read (grid_in v).faces v.destination))
+        (ap length t.takes)
 
     -- are those that the script gives
     pub by_script : (budget : ℕ) → length (symbols_of v ds) ≤ budget
@@ -68,7 +71,8 @@ module _ (v : Given) (c : Passes v) where
         (painted (grid_in v) (blocks_by v ds) (grid_in v).faces v.destination)
     by_script budget h =
         by_chunks budget h
-        ∙ ap₂ (unpacked (length (symbols_of v ds))) (cutouts_by (kind_in v) read (blocks_by v ds) same) (painted_same read (blocks_by v ds) same v.destination)
+        ∙ ap₂ (unpacked (length (symbols_of v ds))) (cutouts_by (kind_in v) read (blocks_by v ds) same)
+        (painted_same read (blocks_by v ds) same v.destination)
       where
         same : (f x y : ℕ) → In (grid_in v) f x y → read f x y ≡ blocks_by v ds f x y
         same = block-is (grid_in v) (shades_in v) (planes_of v.opened) (planes-long (kind_in v) _ _ _ _) ds s.fits

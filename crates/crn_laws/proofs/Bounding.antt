@@ -27,7 +27,8 @@ Within (want x f) zero P = ⊥
 Within (want x f) (suc n) P = (s : ℕ) → Within (f s) n P
 Within (mark m) n P = Within m n P
 
-within-next : {A B : Type 0} (m : Reading A) (k : A → Reading B) (n : ℕ) (P : B → ℕ → Type 0) → Within m n (λ a j. Within (k a) j P) → Within (next m k) n P
+within-next : {A B : Type 0} (m : Reading A) (k : A → Reading B) (n : ℕ) (P : B → ℕ → Type 0) → Within m n (λ a j. Within (k a) j P) →
+    Within (next m k) n P
 unfolding Within next
 within-next (answer a) k n P h = h
 within-next (refuse x) k n P h = h
@@ -109,7 +110,8 @@ module _ {P : ℕ → ℕ → Type 0} where
       by s true = k (stepped p.endpoints i s) N (omega arith)
       by s false = omega arith
 
-  selector-within : (p : Plane) (inside : Bool) (i N n : ℕ) → suc n ≤ N → ((a j : ℕ) → n ≤ j → P a j) → Within (selector_index p inside i) N P
+  selector-within : (p : Plane) (inside : Bool) (i N n : ℕ) → suc n ≤ N → ((a j : ℕ) → n ≤ j → P a j) → Within (selector_index p inside i) N
+      P
   unfolding selector_index next Within
   selector-within p inside i zero n h k = absurd (omega arith)
   selector-within p inside i (suc N) n h k = λ s. by s (either (ltb (stepped p.selectors i s) p.selectors) (not inside))
@@ -119,7 +121,8 @@ module _ {P : ℕ → ℕ → Type 0} where
       by s false = omega arith
 
 module _ {P : List ℕ → ℕ → Type 0} where
-  indices-within : (p : Plane) (m i : ℕ) (is : List ℕ) (N n : ℕ) → m + n ≤ N → ((a : List ℕ) (j : ℕ) → n ≤ j → P a j) → Within (endpoint_indices p m i is) N P
+  indices-within : (p : Plane) (m i : ℕ) (is : List ℕ) (N n : ℕ) → m + n ≤ N → ((a : List ℕ) (j : ℕ) → n ≤ j → P a j) → Within
+      (endpoint_indices p m i is) N P
   unfolding endpoint_indices
   indices-within p zero i is N n h k = unfold Within in k is N (omega arith)
   indices-within p (suc m) i is N n h k =
@@ -134,7 +137,9 @@ position-within {P} (p ∷ ps) inside [] N n h k = unfold Within in k [] N (omeg
 position-within {P} (p ∷ ps) inside (i ∷ is) N n h k =
     within-next (selector_index p inside i) (λ j. next (plane_selectors ps inside is) λ more. answer (j ∷ more)) N P
     (selector-within p inside i N (length ps + n) (omega arith) (λ a j l.
-    within-next (plane_selectors ps inside is) (λ more. answer (a ∷ more)) j P (position-within {P = λ x y. Within {A = List ℕ} (answer (a ∷ x)) y P} ps inside is j n l (λ more m b. unfold Within in k (a ∷ more) m b))))
+    within-next (plane_selectors ps inside is) (λ more. answer (a ∷ more)) j P
+    (position-within {P = λ x y. Within {A = List ℕ} (answer (a ∷ x)) y P} ps inside is j n l
+    (λ more m b. unfold Within in k (a ∷ more) m b))))
 
 endpoints-within : {P : List (List ℕ) → ℕ → Type 0} (ps : List Plane) (m : ℕ) (is : List ℕ) (N n : ℕ) → m ≤ 4 → 4 * length ps + n ≤ N
     → ((a : List (List ℕ)) (j : ℕ) → n ≤ j → P a j) → Within (plane_endpoints ps m is) N P
@@ -144,10 +149,13 @@ endpoints-within {P} (p ∷ ps) m [] N n few h k = unfold Within in k [] N (omeg
 endpoints-within {P} (p ∷ ps) m (i ∷ is) N n few h k =
     within-next (endpoint_indices p m i []) (λ a. next (plane_endpoints ps m is) λ more. answer (a ∷ more)) N P
     (indices-within p m i [] N (4 * length ps + n) (omega arith) (λ a j l.
-    within-next (plane_endpoints ps m is) (λ more. answer (a ∷ more)) j P (endpoints-within {P = λ x y. Within {A = List (List ℕ)} (answer (a ∷ x)) y P} ps m is j n few l (λ more q b. unfold Within in k (a ∷ more) q b))))
+    within-next (plane_endpoints ps m is) (λ more. answer (a ∷ more)) j P
+    (endpoints-within {P = λ x y. Within {A = List (List ℕ)} (answer (a ∷ x)) y P} ps m is j n few l
+    (λ more q b. unfold Within in k (a ∷ more) q b))))
 
 module _ {P : List (List ℕ) → ℕ → Type 0} where
-  selectors-within : (ps : List Plane) (insides : List Bool) (is : List ℕ) (rows : List (List ℕ)) (N n : ℕ) → length insides * length ps + n ≤ N
+  selectors-within : (ps : List Plane) (insides : List Bool) (is : List ℕ) (rows : List (List ℕ)) (N n : ℕ) → length insides * length ps + n
+      ≤ N
       → ((a : List (List ℕ)) (j : ℕ) → n ≤ j → P a j) → Within (position_selectors ps insides is rows) N P
   unfolding position_selectors
   selectors-within ps [] is rows N n h k = unfold Within in k rows N (omega arith)
@@ -157,7 +165,8 @@ module _ {P : List (List ℕ) → ℕ → Type 0} where
       (λ js j l. selectors-within ps more js (rows ++ (js ∷ [])) j n l k))
 
 -- with M chunks after this one, R symbols and those of the chunk symbols for them must be left
-encoding-within : {P : ℕ × List ℕ → ℕ → Type 0} (table pending : List ℕ) (N R M : ℕ) → length pending ≤ 2 → R + (suc M + 2 - length pending) / 3 ≤ N
+encoding-within : {P : ℕ × List ℕ → ℕ → Type 0} (table pending : List ℕ) (N R M : ℕ) → length pending ≤ 2 → R + (suc M + 2 - length pending)
+    / 3 ≤ N
     → ((a : ℕ × List ℕ) (j : ℕ) → length a.1 ≤ 2 → R + (M + 2 - length a.1) / 3 ≤ j → P a j) → Within (encoding table pending) N P
 unfolding encoding next Within
 encoding-within table (e ∷ pending) N R M few h k = k (e, pending) N (omega arith) (omega arith)
@@ -168,7 +177,8 @@ encoding-within {P} table [] (suc N) R M few h k = λ s. by s (ltb s chunk_symbo
     by s true = k (s % 8, s / 8 % 8 ∷ s / 64 % 8 ∷ []) N (omega arith) (omega arith)
     by s false = omega arith
 
-chunk-within : {P : Chunk × Running → ℕ → Type 0} (table : List ℕ) (ps : List Plane) (inside : List Bool) (r : Running) (N R M : ℕ) → length inside ≡ 4
+chunk-within : {P : Chunk × Running → ℕ → Type 0} (table : List ℕ) (ps : List Plane) (inside : List Bool) (r : Running) (N R M : ℕ) → length
+    inside ≡ 4
     → length r.pending ≤ 2 → 8 * length ps + R + (suc M + 2 - length r.pending) / 3 ≤ N
     → ((a : Chunk × Running) (j : ℕ) → length a.1.pending ≤ 2 → R + (M + 2 - length a.1.pending) / 3 ≤ j → P a j)
     → Within (chunk table ps inside r) N P
@@ -177,14 +187,19 @@ chunk-within {P} table ps inside r N R M four few h k =
     within-next (encoding table r.pending) ends_then N P
     (encoding-within table r.pending N (8 * length ps + R) M few h (λ e j short left.
     within-next (plane_endpoints ps (get_or tile_counts e.0 0) r.endpoint) (sels_then e) j P
-    (endpoints-within ps (get_or tile_counts e.0 0) r.endpoint j (4 * length ps + (R + (M + 2 - length e.1) / 3)) (omega (arith, few-tiles e.0))
+    (endpoints-within ps (get_or tile_counts e.0 0) r.endpoint j (4 * length ps + (R + (M + 2 - length e.1) / 3))
+    (omega (arith, few-tiles e.0))
     (omega arith) (λ t j l.
     within-next (position_selectors ps inside r.selector []) (λ q. answer (made e t q)) j P
-    (selectors-within ps inside r.selector [] j (R + (M + 2 - length e.1) / 3) (rw four (omega arith)) (λ q j l. unfold Within in k (made e t q) j short l))))))
+    (selectors-within ps inside r.selector [] j (R + (M + 2 - length e.1) / 3) (rw four (omega arith))
+    (λ q j l. unfold Within in k (made e t q) j short l))))))
   where
     made : ℕ × List ℕ → List (List ℕ) → List (List ℕ) → Chunk × Running
-    made e t q =
-        (record { encoding = e.0; tiles = t; positions = q }, record { pending = e.1; endpoint = lasts r.endpoint t; selector = last_row r.selector q })
+    made e t q = (
+      record { encoding = e.0; tiles = t; positions = q },
+      record
+          { pending = e.1; endpoint = lasts r.endpoint t; selector = last_row r.selector q },
+    )
 
     sels_then : ℕ × List ℕ → List (List ℕ) → Reading (Chunk × Running)
     sels_then e t = next (position_selectors ps inside r.selector []) (λ q. answer (made e t q))
@@ -192,7 +207,8 @@ chunk-within {P} table ps inside r N R M four few h k =
     ends_then : ℕ × List ℕ → Reading (Chunk × Running)
     ends_then e = next (plane_endpoints ps (get_or tile_counts e.0 0) r.endpoint) (sels_then e)
 
-chunks-within : {P : List Chunk × Running → ℕ → Type 0} (table : List ℕ) (ps : List Plane) (insides : List (List Bool)) (r : Running) (cs : List Chunk) (N : ℕ)
+chunks-within : {P : List Chunk × Running → ℕ → Type 0} (table : List ℕ) (ps : List Plane) (insides : List (List Bool)) (r : Running)
+    (cs : List Chunk) (N : ℕ)
     → AllFour insides → length r.pending ≤ 2 → 8 * (length insides * length ps) + (length insides + 2 - length r.pending) / 3 ≤ N
     → ((a : List Chunk × Running) (j : ℕ) → P a j) → Within (chunks table ps insides r cs) N P
 unfolding chunks AllFour
@@ -202,9 +218,11 @@ chunks-within {P} table ps (x ∷ xs) r cs N four few h k =
     (chunk-within table ps x r N (8 * (length xs * length ps)) (length xs) four.0 few (omega (arith, suc-mul (length xs) (length ps)))
     (λ a j short left. chunks-within table ps xs a.1 (cs ++ (a.0 ∷ [])) j four.1 short left k))
 
-pub level-within : (table : List ℕ) (ps : List Plane) (g : Grid) (n : ℕ) → Within (level table ps (insides g 0 n)) (allowance n (length ps)) (λ a j. Unit {0})
+pub level-within : (table : List ℕ) (ps : List Plane) (g : Grid) (n : ℕ) → Within (level table ps (insides g 0 n)) (allowance n (length ps))
+    (λ a j. Unit {0})
 unfolding level
 level-within table ps g n =
     within-next (chunks table ps (insides g 0 n) (fresh ps) []) (λ a. answer a.0) (allowance n (length ps)) (λ a j. Unit {0})
-    (chunks-within table ps (insides g 0 n) (fresh ps) [] (allowance n (length ps)) (all-four g 0 n) (omega arith) (rw (as_many g 0 n) (omega arith))
+    (chunks-within table ps (insides g 0 n) (fresh ps) [] (allowance n (length ps)) (all-four g 0 n) (omega arith)
+    (rw (as_many g 0 n) (omega arith))
     (λ a j. unfold Within in tt))

@@ -25,13 +25,15 @@ chunk-at ps r [] c h = absurd (omega arith)
 chunk-at ps r (d ∷ ds) zero h = refl
 chunk-at ps r (d ∷ ds) (suc c) h = chunk-at ps (after ps r d) ds c (omega arith)
 
-pub fits-long : (ps : List Plane) (insides : List (List Bool)) (r : Running) (ds : List Draws) → Fits ps insides r ds → length ds ≡ length insides
+pub fits-long : (ps : List Plane) (insides : List (List Bool)) (r : Running) (ds : List Draws) → Fits ps insides r ds → length ds ≡ length
+    insides
 unfolding Fits
 fits-long ps [] r ds h = h
 fits-long ps (x ∷ xs) r [] h = absurd h
 fits-long ps (x ∷ xs) r (d ∷ ds) h = ap suc (fits-long ps xs (after ps r d) ds h.1)
 
-pub fits-at : (ps : List Plane) (insides : List (List Bool)) (r : Running) (ds : List Draws) (c : ℕ) → Fits ps insides r ds → c < length insides
+pub fits-at : (ps : List Plane) (insides : List (List Bool)) (r : Running) (ds : List Draws) (c : ℕ) → Fits ps insides r ds → c < length
+    insides
     → ChunkFits ps (nth_list insides c) (carried_to ps r ds c) (draws_at ds c)
 unfolding Fits nth_list carried_to draws_at
 fits-at ps [] r ds c h l = absurd (omega arith)
@@ -41,7 +43,8 @@ fits-at ps (x ∷ xs) r (d ∷ ds) (suc c) h l = fits-at ps xs (after ps r d) ds
 
 -- ---- a running index for each plane
 
-sized-after : (ps : List Plane) (inside : List Bool) (r : Running) (d : Draws) → ChunkFits ps inside r d → Sized (length ps) r → Sized (length ps) (after ps r d)
+sized-after : (ps : List Plane) (inside : List Bool) (r : Running) (d : Draws) → ChunkFits ps inside r d → Sized (length ps) r → Sized
+    (length ps) (after ps r d)
 unfolding after
 sized-after ps inside r d h s =
     let n = get_or tile_counts (chunk_by ps r d).encoding 0 in
@@ -51,14 +54,16 @@ sized-after ps inside r d h s =
       selector = row-long ps inside r.selector d.selectors h.selectors s.selector;
     }
 
-sized_to : (ps : List Plane) (insides : List (List Bool)) (r : Running) (ds : List Draws) (c : ℕ) → Fits ps insides r ds → Sized (length ps) r → Sized (length ps) (carried_to ps r ds c)
+sized_to : (ps : List Plane) (insides : List (List Bool)) (r : Running) (ds : List Draws) (c : ℕ) → Fits ps insides r ds → Sized (length ps)
+    r → Sized (length ps) (carried_to ps r ds c)
 unfolding Fits carried_to
 sized_to ps insides r ds zero h s = s
 sized_to ps insides r [] (suc c) h s = s
 sized_to ps [] r (d ∷ ds) (suc c) h s = absurd (omega arith)
 sized_to ps (x ∷ xs) r (d ∷ ds) (suc c) h s = sized_to ps xs (after ps r d) ds c h.1 (sized-after ps x r d h.0 s)
 
-endpoint-after : (ps : List Plane) (inside : List Bool) (r : Running) (d : Draws) (k : ℕ) → ChunkFits ps inside r d → Sized (length ps) r → k < length ps
+endpoint-after : (ps : List Plane) (inside : List Bool) (r : Running) (d : Draws) (k : ℕ) → ChunkFits ps inside r d → Sized (length ps) r →
+    k < length ps
     → get_or (after ps r d).endpoint k 0
     ≡ last_or (get_or r.endpoint k 0) (indices (plane_at ps k).endpoints (get_or r.endpoint k 0) (endpoint_deltas k d))
 unfolding after
@@ -69,7 +74,8 @@ endpoint-after ps inside r d k h s b =
     lasts-of r.endpoint (endpoints_of ps r.endpoint d.endpoints) k (l ∙ sym s.endpoint) (omega (arith, s.endpoint))
     ∙ ap (last_or (get_or r.endpoint k 0)) e.are
 
-selector-after : (ps : List Plane) (inside : List Bool) (r : Running) (d : Draws) (k : ℕ) → ChunkFits ps inside r d → Sized (length ps) r → k < length ps
+selector-after : (ps : List Plane) (inside : List Bool) (r : Running) (d : Draws) (k : ℕ) → ChunkFits ps inside r d → Sized (length ps) r →
+    k < length ps
     → get_or (after ps r d).selector k 0
     ≡ last_or (get_or r.selector k 0) (indices (plane_at ps k).selectors (get_or r.selector k 0) (selector_deltas k d))
 unfolding after
@@ -78,7 +84,8 @@ selector-after ps inside r d k h s b =
     row-of r.selector (selectors_of ps r.selector d.selectors) k ∙ ap (last_or (get_or r.selector k 0)) e.are
 
 -- plane k's running indices are carried by its own deltas
-endpoint_to : (ps : List Plane) (insides : List (List Bool)) (r : Running) (ds : List Draws) (k c : ℕ) → Fits ps insides r ds → Sized (length ps) r → k < length ps
+endpoint_to : (ps : List Plane) (insides : List (List Bool)) (r : Running) (ds : List Draws) (k c : ℕ) → Fits ps insides r ds → Sized
+    (length ps) r → k < length ps
     → get_or (carried_to ps r ds c).endpoint k 0 ≡ carried (plane_at ps k).endpoints (endpoint_deltas k) (get_or r.endpoint k 0) ds c
 unfolding Fits carried_to carried
 endpoint_to ps insides r ds k zero h s b = refl
@@ -88,7 +95,8 @@ endpoint_to ps (x ∷ xs) r (d ∷ ds) k (suc c) h s b =
     endpoint_to ps xs (after ps r d) ds k c h.1 (sized-after ps x r d h.0 s) b
     ∙ ap (λ (i : ℕ). carried (plane_at ps k).endpoints (endpoint_deltas k) i ds c) (endpoint-after ps x r d k h.0 s b)
 
-selector_to : (ps : List Plane) (insides : List (List Bool)) (r : Running) (ds : List Draws) (k c : ℕ) → Fits ps insides r ds → Sized (length ps) r → k < length ps
+selector_to : (ps : List Plane) (insides : List (List Bool)) (r : Running) (ds : List Draws) (k c : ℕ) → Fits ps insides r ds → Sized
+    (length ps) r → k < length ps
     → get_or (carried_to ps r ds c).selector k 0 ≡ carried (plane_at ps k).selectors (selector_deltas k) (get_or r.selector k 0) ds c
 unfolding Fits carried_to carried
 selector_to ps insides r ds k zero h s b = refl
@@ -104,7 +112,8 @@ unfoldable SymbolsFit : List ℕ → List Draws → Type 0
 SymbolsFit pending [] = Unit {0}
 SymbolsFit pending (d ∷ ds) = SymbolFits pending d.symbols × SymbolsFit (drop 1 (encodings pending d.symbols)) ds
 
-symbols_fit : (ps : List Plane) (insides : List (List Bool)) (r : Running) (ds : List Draws) → Fits ps insides r ds → SymbolsFit r.pending ds
+symbols_fit : (ps : List Plane) (insides : List (List Bool)) (r : Running) (ds : List Draws) → Fits ps insides r ds → SymbolsFit r.pending
+    ds
 unfolding Fits SymbolsFit after
 symbols_fit ps insides r [] h = tt
 symbols_fit ps [] r (d ∷ ds) h = absurd (omega arith)
@@ -134,7 +143,8 @@ later d e f ds c =
     let rest : suc (suc (suc c)) % 3 ≡ c % 3 = omega arith in
     rw (place, rest)
 
-encoding_by : (ds : List Draws) (c : ℕ) → SymbolsFit [] ds → c < length ds → get_or (encodings (pending_to [] ds c) (draws_at ds c).symbols) 0 0 ≡ encoding_at ds c
+encoding_by : (ds : List Draws) (c : ℕ) → SymbolsFit [] ds → c < length ds → get_or (encodings (pending_to [] ds c) (draws_at ds c).symbols)
+    0 0 ≡ encoding_at ds c
 unfolding SymbolsFit pending_to draws_at encodings
 encoding_by [] c h l = absurd (omega arith)
 encoding_by (d ∷ ds) zero h l = rw (three d.symbols h.0) (omega arith)
@@ -159,7 +169,8 @@ true_within [] q e = absurd (false≢true e)
 true_within (b ∷ bs) zero e = omega arith
 true_within (b ∷ bs) (suc q) e = omega (arith, true_within bs q e)
 
-module _ (ps : List Plane) (insides : List (List Bool)) (ds : List Draws) (h : Fits ps insides (fresh ps) ds) (c : ℕ) (l : c < length insides) where
+module _ (ps : List Plane) (insides : List (List Bool)) (ds : List Draws) (h : Fits ps insides (fresh ps) ds) (c : ℕ)
+    (l : c < length insides) where
   abbrev r : Running
   r = carried_to ps (fresh ps) ds c
 

@@ -30,7 +30,8 @@ Writes ls = (y : ℕ) → HasCode (sent ls y) → Writable (a_symbol ls) y
 code_writes : (ls : List ℕ) → is_code ls ≡ true → Writes ls
 unfolding Writable
 code_writes ls e y h =
-    let few = leb-true _ _ (both_hold (leb (room ls (length ls)) all_room) (ltb 0 (longest ls)) (both_hold (all_fit ls (length ls)) _ e).1).0 in
+    let few = leb-true _ _ (both_hold (leb (room ls (length ls)) all_room) (ltb 0 (longest ls))
+    (both_hold (all_fit ls (length ls)) _ e).1).0 in
     let low = fit_short ls (code_fits ls e) y in
     (h.known, (h.coded, (low, codes_fit ls y low few h.known h.coded)))
 
@@ -74,7 +75,8 @@ unfolding PlanesWrite endpoints_sent
 endpoints_write [] yss w = unfold AllWrite in tt
 endpoints_write (p ∷ ps) [] w = unfold AllWrite in tt
 endpoints_write (p ∷ ps) (ys ∷ yss) w =
-    both_write (in_code p.endpoint_deltas ys) (endpoints_sent ps yss) (in_code_write p.endpoint_deltas ys w.0) (endpoints_write ps yss w.1.1)
+    both_write (in_code p.endpoint_deltas ys) (endpoints_sent ps yss) (in_code_write p.endpoint_deltas ys w.0)
+    (endpoints_write ps yss w.1.1)
 
 position_write : (ps : List Plane) (ys : List ℕ) → PlanesWrite ps → AllWrite (position_sent ps ys)
 unfolding PlanesWrite position_sent AllWrite
@@ -85,7 +87,8 @@ position_write (p ∷ ps) (y ∷ ys) w = (w.1.0, position_write ps ys w.1.1)
 selectors_write : (ps : List Plane) (yss : List (List ℕ)) → PlanesWrite ps → AllWrite (selectors_sent ps yss)
 unfolding selectors_sent
 selectors_write ps [] w = unfold AllWrite in tt
-selectors_write ps (ys ∷ yss) w = both_write (position_sent ps ys) (selectors_sent ps yss) (position_write ps ys w) (selectors_write ps yss w)
+selectors_write ps (ys ∷ yss) w = both_write (position_sent ps ys) (selectors_sent ps yss) (position_write ps ys w)
+    (selectors_write ps yss w)
 
 level_write : (table : List ℕ) (ps : List Plane) (ds : List Draws) → Writes table → PlanesWrite ps → AllWrite (level_sent table ps ds)
 unfolding level_sent chunk_sent
@@ -93,7 +96,8 @@ level_write table ps [] t w = unfold AllWrite in tt
 level_write table ps (d ∷ ds) t w =
     both_write (chunk_sent table ps d) (level_sent table ps ds)
     (both_write (in_code table d.symbols) (endpoints_sent ps d.endpoints ++ selectors_sent ps d.selectors) (in_code_write table d.symbols t)
-    (both_write (endpoints_sent ps d.endpoints) (selectors_sent ps d.selectors) (endpoints_write ps d.endpoints w) (selectors_write ps d.selectors w)))
+    (both_write (endpoints_sent ps d.endpoints) (selectors_sent ps d.selectors) (endpoints_write ps d.endpoints w)
+    (selectors_write ps d.selectors w)))
     (level_write table ps ds t w)
 
 planes_write : (k : Kind) (c a : Plane) → PlanesWrite (c ∷ []) → PlanesWrite (a ∷ []) → PlanesWrite (per_plane k c a)
@@ -105,7 +109,8 @@ planes_write DXN c a h g = (g.0, (g.1.0, g))
 planes_write unknown c a h g = tt
 
 -- every symbol of a script can be written
-pub script_in_lem : (r : Record) (ds : List Draws) → tables_hold r.tables ≡ true → AllCoded (level_sent (lengths_of r.tables.chunk_encoding) (planes_of r) ds)
+pub script_in_lem : (r : Record) (ds : List Draws) → tables_hold r.tables ≡ true → AllCoded
+    (level_sent (lengths_of r.tables.chunk_encoding) (planes_of r) ds)
     → AllIn (level_sent (lengths_of r.tables.chunk_encoding) (planes_of r) ds)
 unfolding tables_hold PlanesWrite
 script_in_lem r ds e h =

@@ -71,18 +71,21 @@ module _ (v : Given) (c : Passes v) where
   drawn-level b = rw (c.limits, c.tables, lt-ltb _ _ c.number, c.segment, c.palettes, c.grid, le-leb _ _ c.room)
 
   ended-level : (b : ℕ) → unpacking_in v b
-      ≡ ended (kind_in v) (grid_in v) (shades_in v) b v.destination (run (budgeted (from_bits (segment_in v))) (reading v) (spending start b))
+      ≡ ended (kind_in v) (grid_in v) (shades_in v) b v.destination
+      (run (budgeted (from_bits (segment_in v))) (reading v) (spending start b))
   unfolding drawn_level
   ended-level b = drawn-level b
 
   pub with_enough : (b : ℕ) → tried_in v ≤ b → unpacking_in v b ≡ answered v (ran v)
   with_enough b h =
-      ended-level b ∙ ap (ended (kind_in v) (grid_in v) (shades_in v) b v.destination) (enough (from_bits (segment_in v)) (reading v) start b h) ∙ by (ran v)
+      ended-level b ∙ ap (ended (kind_in v) (grid_in v) (shades_in v) b v.destination)
+      (enough (from_bits (segment_in v)) (reading v) start b h) ∙ by (ran v)
     where
       back : b - (b - drawn_in v) ≡ drawn_in v
       back = omega (arith, fewer (from_bits (segment_in v)) (reading v) start)
 
-      by : (y : Step Place (List Chunk)) → ended (kind_in v) (grid_in v) (shades_in v) b v.destination (leaving (b - drawn_in v) y) ≡ answered v y
+      by : (y : Step Place (List Chunk)) → ended (kind_in v) (grid_in v) (shades_in v) b v.destination (leaving (b - drawn_in v) y) ≡
+          answered v y
       by (got cs w) = unfold ended leaving in rw back
       by (refused n w) = unfold ended leaving in rw back
 
@@ -103,7 +106,8 @@ module _ (v : Given) where
   -- what a run that accepts took is a script
   pub script-of : {cs : List Chunk} {w : Place} → ran v ≡ got cs w → (ds : List Draws) × ScriptOf v ds
   script-of {cs} e =
-      let t = level-taken table (planes_of v.opened) (insides (grid_in v) 0 (chunk_count (grid_in v))) (taken (from_bits (segment_in v)) (reading v) start) cs
+      let t = level-taken table (planes_of v.opened) (insides (grid_in v) 0 (chunk_count (grid_in v)))
+      (taken (from_bits (segment_in v)) (reading v) start) cs
       (replayed (from_bits (segment_in v)) (reading v) start e) in
       let s = level_sent table (planes_of v.opened) t.0 in
       let f = level_follows table (planes_of v.opened) (insides (grid_in v) 0 (chunk_count (grid_in v))) t.0 t.1 in

@@ -14,10 +14,12 @@ use Rattle.crn_laws.specs.Scripts.{Sent, sent, Draws, in_code, endpoints_sent, p
 use Rattle.crn_laws.proofs.Following.{Follows, follow_next}
 
 -- an answer made of another reading's
-follow_made : {A B : Type 0} (m : Reading A) (k : A → B) (ss : List Sent) (a : A) → Follows m ss a → Follows (next m (λ x. answer (k x))) ss (k a)
+follow_made : {A B : Type 0} (m : Reading A) (k : A → B) (ss : List Sent) (a : A) → Follows m ss a → Follows (next m (λ x. answer (k x))) ss
+    (k a)
 unfolding Follows
 follow_made m k ss a h =
-    subst (λ (x : List Sent). Follows (next m (λ y. answer (k y))) x (k a)) (append-nil ss) (follow_next m (λ y. answer (k y)) ss [] a (k a) h refl)
+    subst (λ (x : List Sent). Follows (next m (λ y. answer (k y))) x (k a)) (append-nil ss)
+    (follow_next m (λ y. answer (k y)) ss [] a (k a) h refl)
 
 -- ---- endpoints
 
@@ -32,7 +34,8 @@ unfolding endpoint_indices in_code indices AllBelow
 indices_follow p i is [] h = unfold Follows in sym (append-nil is)
 indices_follow p i is (y ∷ ys) h =
     let j = stepped p.endpoints i y in
-    follow_next (endpoint_index p i) (λ k. endpoint_indices p (length ys) k (is ++ (k ∷ []))) (sent p.endpoint_deltas y ∷ []) (in_code p.endpoint_deltas ys) j
+    follow_next (endpoint_index p i) (λ k. endpoint_indices p (length ys) k (is ++ (k ∷ []))) (sent p.endpoint_deltas y ∷ [])
+    (in_code p.endpoint_deltas ys) j
     (is ++ (j ∷ indices p.endpoints j ys)) (endpoint_follows p i y h.0)
     (subst (λ (x : List ℕ). Follows (endpoint_indices p (length ys) j (is ++ (j ∷ []))) (in_code p.endpoint_deltas ys) x)
     (append_assoc is (j ∷ []) (indices p.endpoints j ys))
@@ -48,7 +51,8 @@ endpoints_follow (p ∷ ps) n (i ∷ is) [] h = absurd h
 endpoints_follow (p ∷ ps) n (i ∷ is) (ys ∷ yss) h =
     follow_next (endpoint_indices p n i []) (λ a. next (plane_endpoints ps n is) λ more. answer (a ∷ more)) (in_code p.endpoint_deltas ys)
     (endpoints_sent ps yss) (indices p.endpoints i ys) (indices p.endpoints i ys ∷ endpoints_of ps is yss)
-    (subst (λ (k : ℕ). Follows (endpoint_indices p k i []) (in_code p.endpoint_deltas ys) (indices p.endpoints i ys)) h.0 (indices_follow p i [] ys h.1.0))
+    (subst (λ (k : ℕ). Follows (endpoint_indices p k i []) (in_code p.endpoint_deltas ys) (indices p.endpoints i ys)) h.0
+    (indices_follow p i [] ys h.1.0))
     (follow_made (plane_endpoints ps n is) (λ more. indices p.endpoints i ys ∷ more) (endpoints_sent ps yss) (endpoints_of ps is yss)
     (endpoints_follow ps n is yss h.1.1))
 
@@ -72,7 +76,8 @@ position_follows (p ∷ ps) inside [] [] h = unfold Follows in refl
 position_follows (p ∷ ps) inside [] (y ∷ ys) h = absurd (omega arith)
 position_follows (p ∷ ps) inside (i ∷ is) [] h = absurd h
 position_follows (p ∷ ps) inside (i ∷ is) (y ∷ ys) h =
-    follow_next (selector_index p inside i) (λ j. next (plane_selectors ps inside is) λ more. answer (j ∷ more)) (sent p.selector_deltas y ∷ [])
+    follow_next (selector_index p inside i) (λ j. next (plane_selectors ps inside is) λ more. answer (j ∷ more))
+    (sent p.selector_deltas y ∷ [])
     (position_sent ps ys) (stepped p.selectors i y) (stepped p.selectors i y ∷ selectors_at ps is ys) (selector_follows p inside i y h.0)
     (follow_made (plane_selectors ps inside is) (λ more. stepped p.selectors i y ∷ more) (position_sent ps ys) (selectors_at ps is ys)
     (position_follows ps inside is ys h.1))
@@ -85,7 +90,8 @@ selectors_follow ps [] is rows (ys ∷ yss) h = absurd (omega arith)
 selectors_follow ps (inside ∷ more) is rows [] h = absurd h
 selectors_follow ps (inside ∷ more) is rows (ys ∷ yss) h =
     let js = selectors_at ps is ys in
-    follow_next (plane_selectors ps inside is) (λ js. position_selectors ps more js (rows ++ (js ∷ []))) (position_sent ps ys) (selectors_sent ps yss) js
+    follow_next (plane_selectors ps inside is) (λ js. position_selectors ps more js (rows ++ (js ∷ []))) (position_sent ps ys)
+    (selectors_sent ps yss) js
     (rows ++ (js ∷ selectors_of ps js yss)) (position_follows ps inside is ys h.0)
     (subst (λ (x : List (List ℕ)). Follows (position_selectors ps more js (rows ++ (js ∷ []))) (selectors_sent ps yss) x)
     (append_assoc rows (js ∷ []) (selectors_of ps js yss))
@@ -109,7 +115,8 @@ chunk_follows table ps inside r d h =
     follow_next (encoding table r.pending) (λ e. ends_then e.0 e.1) (in_code table d.symbols)
     (endpoints_sent ps d.endpoints ++ selectors_sent ps d.selectors)
     (get_or es 0 0, drop 1 es) (chunk_by ps r d, after ps r d) (encoding_follows table r.pending d.symbols h.symbol)
-    (follow_next (plane_endpoints ps (get_or tile_counts (get_or es 0 0) 0) r.endpoint) (sels_then (get_or es 0 0) (drop 1 es)) (endpoints_sent ps d.endpoints)
+    (follow_next (plane_endpoints ps (get_or tile_counts (get_or es 0 0) 0) r.endpoint) (sels_then (get_or es 0 0) (drop 1 es))
+    (endpoints_sent ps d.endpoints)
     (selectors_sent ps d.selectors)
     (endpoints_of ps r.endpoint d.endpoints) (chunk_by ps r d, after ps r d)
     (endpoints_follow ps (get_or tile_counts (get_or es 0 0) 0) r.endpoint d.endpoints h.endpoints)
@@ -121,8 +128,11 @@ chunk_follows table ps inside r d h =
     es = encodings r.pending d.symbols
 
     made : ℕ → List ℕ → List (List ℕ) → List (List ℕ) → Chunk × Running
-    made e pending t q =
-        (record { encoding = e; tiles = t; positions = q }, record { pending = pending; endpoint = lasts r.endpoint t; selector = last_row r.selector q })
+    made e pending t q = (
+      record { encoding = e; tiles = t; positions = q },
+      record
+          { pending = pending; endpoint = lasts r.endpoint t; selector = last_row r.selector q },
+    )
 
     sels_then : ℕ → List ℕ → List (List ℕ) → Reading (Chunk × Running)
     sels_then e pending t = next (position_selectors ps inside r.selector []) (λ q. answer (made e pending t q))
@@ -144,7 +154,8 @@ chunks_follow table ps (inside ∷ more) r cs [] h = absurd h
 chunks_follow table ps (inside ∷ more) r cs (d ∷ ds) h =
     let c = chunk_by ps r d in
     let q = after ps r d in
-    follow_next (chunk table ps inside r) (λ a. chunks table ps more a.1 (cs ++ (a.0 ∷ []))) (chunk_sent table ps d) (level_sent table ps ds)
+    follow_next (chunk table ps inside r) (λ a. chunks table ps more a.1 (cs ++ (a.0 ∷ []))) (chunk_sent table ps d)
+    (level_sent table ps ds)
     (c, q) (cs ++ (c ∷ chunks_by ps q ds), ending ps q ds) (chunk_follows table ps inside r d h.0)
     (subst (λ (x : List Chunk). Follows (chunks table ps more q (cs ++ (c ∷ []))) (level_sent table ps ds) (x, ending ps q ds))
     (append_assoc cs (c ∷ []) (chunks_by ps q ds))
@@ -154,5 +165,6 @@ pub level_follows : (table : List ℕ) (ps : List Plane) (insides : List (List B
     → Follows (level table ps insides) (level_sent table ps ds) (chunks_by ps (fresh ps) ds)
 unfolding level
 level_follows table ps insides ds h =
-    follow_made (chunks table ps insides (fresh ps) []) (λ a. a.0) (level_sent table ps ds) (chunks_by ps (fresh ps) ds, ending ps (fresh ps) ds)
+    follow_made (chunks table ps insides (fresh ps) []) (λ a. a.0) (level_sent table ps ds)
+    (chunks_by ps (fresh ps) ds, ending ps (fresh ps) ds)
     (chunks_follow table ps insides (fresh ps) [] ds h)

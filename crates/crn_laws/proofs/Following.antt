@@ -26,7 +26,8 @@ Follows (want (a_number n) f) ss a = ⊥
 Follows (mark m) ss a = Follows m ss a
 
 -- one reading and then another
-pub follow_next : {A B : Type 0} (m : Reading A) (k : A → Reading B) (ss ts : List Sent) (a : A) (b : B) → Follows m ss a → Follows (k a) ts b
+pub follow_next : {A B : Type 0} (m : Reading A) (k : A → Reading B) (ss ts : List Sent) (a : A) (b : B) → Follows m ss a → Follows (k a) ts
+    b
     → Follows (next m k) (ss ++ ts) b
 unfolding Follows next
 follow_next (answer c) k [] ts a b h g = subst (λ x. Follows (k x) ts b) (sym h) g
@@ -112,7 +113,8 @@ begun : (seg ls : List ℕ) (p y : ℕ) → Begins ls seg p y → Starts seg p (
 begun seg ls p y h = rw h.same at (spelt seg p (get_or ls y 0) h.fits)
 
 -- what a reading follows, where it stands in the bits from p on: the codes begin the bits there, and each symbol has one
-pub follow_starts : {A : Type 0} (seg : List ℕ) (m : Reading A) (ss : List Sent) (a : A) (p : ℕ) → Follows m ss a → Laid seg m (symbols ss) p
+pub follow_starts : {A : Type 0} (seg : List ℕ) (m : Reading A) (ss : List Sent) (a : A) (p : ℕ) → Follows m ss a → Laid seg m (symbols ss)
+    p
     → p ≤ bit_count seg → Starts seg p (bits ss) × AllCoded ss
 unfolding Follows Laid Stands width symbols bits AllCoded
 follow_starts seg (answer b) [] a p h l f = (record { fits = omega arith; same = λ i l. absurd (omega arith) }, tt)

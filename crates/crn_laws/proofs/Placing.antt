@@ -53,7 +53,8 @@ inside-at g f x y at = rw (inside_of g f (x / 2) (y / 2) (covers g f x y at)) (b
 
 -- ---- the planes' bytes, by number
 
-halves_by_lem : (shades : List Shade) (ts : List (List ℕ)) (ss : List ℕ) (tile : ℕ) (e s : ℕ → ℕ) (k : ℕ) → length ts ≡ length shades → length ss ≡ length shades
+halves_by_lem : (shades : List Shade) (ts : List (List ℕ)) (ss : List ℕ) (tile : ℕ) (e s : ℕ → ℕ) (k : ℕ) → length ts ≡ length shades →
+    length ss ≡ length shades
     → ((j : ℕ) → j < length shades → get_or (nth_list ts j) tile 0 ≡ e (k + j)) → ((j : ℕ) → j < length shades → get_or ss j 0 ≡ s (k + j))
     → halves shades ts ss tile ≡ halves_by shades e s k
 unfolding halves halves_by nth_list
@@ -80,10 +81,14 @@ module _ (g : Grid) (shades : List Shade) (ps : List Plane) (many : length shade
   pub block-is : (f x y : ℕ) → In g f x y → block_at g shades chunks f x y ≡ block_by g shades ps ds f x y
   unfolding block_at block_of block_by
   block-is f x y at =
-      ap (λ (e : ℕ). halves shades (chunk_at chunks c).tiles (nth_list (chunk_at chunks c).positions q) (tile_at e q)) (encoding-at ps all ds h c counted)
-      ∙ halves_by_lem shades (chunk_at chunks c).tiles (nth_list (chunk_at chunks c).positions q) t (endpoint_by ps ds c q) (selector_by ps ds c q) 0
-      (tiles-long ps all ds h c counted ∙ sym many) (positions-long ps all ds h c counted q (true_within (nth_list all c) q used) ∙ sym many)
-      (λ j b. endpoint-at ps all ds h c counted j t (omega (arith, many)) (tile_below (encoding_at ds c) q (mod-lt _ (omega arith)) (omega arith))
+      ap (λ (e : ℕ). halves shades (chunk_at chunks c).tiles (nth_list (chunk_at chunks c).positions q) (tile_at e q))
+      (encoding-at ps all ds h c counted)
+      ∙ halves_by_lem shades (chunk_at chunks c).tiles (nth_list (chunk_at chunks c).positions q) t (endpoint_by ps ds c q)
+      (selector_by ps ds c q) 0
+      (tiles-long ps all ds h c counted ∙ sym many) (positions-long ps all ds h c counted q (true_within (nth_list all c) q used) ∙ sym
+      many)
+      (λ j b. endpoint-at ps all ds h c counted j t (omega (arith, many))
+      (tile_below (encoding_at ds c) q (mod-lt _ (omega arith)) (omega arith))
       ∙ ap (endpoint_by ps ds c q) (zeroth j))
       (λ j b. selector-at ps all ds h c counted j q (omega (arith, many)) used ∙ ap (selector_by ps ds c q) (zeroth j))
     where

@@ -17,7 +17,8 @@ pub record EndpointsOf (ps : List Plane) (n : ℕ) (is : List ℕ) (yss : List (
   pub many : length (nth_list yss k) ≡ n
   pub below : AllBelow (plane_at ps k).endpoints (indices (plane_at ps k).endpoints (get_or is k 0) (nth_list yss k))
 
-pub endpoints-of : (ps : List Plane) (n : ℕ) (is : List ℕ) (yss : List (List ℕ)) (k : ℕ) → EndpointsFit ps n is yss → length is ≡ length ps → k < length ps
+pub endpoints-of : (ps : List Plane) (n : ℕ) (is : List ℕ) (yss : List (List ℕ)) (k : ℕ) → EndpointsFit ps n is yss → length is ≡ length ps
+    → k < length ps
     → EndpointsOf ps n is yss k
 unfolding EndpointsFit endpoints_of nth_list plane_at
 endpoints-of [] n is yss k h l b = absurd (omega arith)
@@ -37,7 +38,8 @@ endpoints-long (p ∷ ps) n (i ∷ is) [] h l = absurd h
 endpoints-long (p ∷ ps) n (i ∷ is) (ys ∷ yss) h l = ap suc (endpoints-long ps n is yss h.1.1 (omega arith))
 
 -- the last of each
-pub lasts-of : (is : List ℕ) (xss : List (List ℕ)) (k : ℕ) → length xss ≡ length is → k < length is → get_or (lasts is xss) k 0 ≡ last_or (get_or is k 0) (nth_list xss k)
+pub lasts-of : (is : List ℕ) (xss : List (List ℕ)) (k : ℕ) → length xss ≡ length is → k < length is → get_or (lasts is xss) k 0 ≡ last_or
+    (get_or is k 0) (nth_list xss k)
 unfolding lasts nth_list
 lasts-of [] xss k h b = absurd (omega arith)
 lasts-of (i ∷ is) [] k h b = absurd (omega arith)
@@ -50,7 +52,8 @@ pub record PositionOf (ps : List Plane) (inside : Bool) (is ys : List ℕ) (k : 
   pub is-next : get_or (selectors_at ps is ys) k 0 ≡ stepped (plane_at ps k).selectors (get_or is k 0) (get_or ys k 0)
   pub below : inside ≡ true → stepped (plane_at ps k).selectors (get_or is k 0) (get_or ys k 0) < (plane_at ps k).selectors
 
-position-of : (ps : List Plane) (inside : Bool) (is ys : List ℕ) (k : ℕ) → PositionFits ps inside is ys → length is ≡ length ps → k < length ps
+position-of : (ps : List Plane) (inside : Bool) (is ys : List ℕ) (k : ℕ) → PositionFits ps inside is ys → length is ≡ length ps → k < length
+    ps
     → PositionOf ps inside is ys k
 unfolding PositionFits selectors_at plane_at
 position-of [] inside is ys k h l b = absurd (omega arith)
@@ -88,7 +91,8 @@ selectors-of ps (inside ∷ more) is (ys ∷ yss) k h l b =
     record {
       are = ap₂ ◌∷◌ p.is-next (r.are ∙ ap (λ (x : ℕ). indices n x (column yss k)) p.is-next);
       many = ap suc r.many;
-      below = at n j (column yss k) p.below (subst (λ (x : ℕ). (q : ℕ) → get_or more q false ≡ true → get_or (indices n x (column yss k)) q 0 < n) p.is-next
+      below = at n j (column yss k) p.below (subst (λ (x : ℕ). (q : ℕ) → get_or more q false ≡ true → get_or (indices n x (column yss k)) q
+          0 < n) p.is-next
           r.below);
     }
   where
@@ -97,7 +101,8 @@ selectors-of ps (inside ∷ more) is (ys ∷ yss) k h l b =
     at n j zs first rest zero e = first e
     at n j zs first rest (suc q) e = rest q e
 
-pub row-long : (ps : List Plane) (insides : List Bool) (is : List ℕ) (yss : List (List ℕ)) → SelectorsFit ps insides is yss → length is ≡ length ps
+pub row-long : (ps : List Plane) (insides : List Bool) (is : List ℕ) (yss : List (List ℕ)) → SelectorsFit ps insides is yss → length is ≡
+    length ps
     → length (last_row is (selectors_of ps is yss)) ≡ length ps
 unfolding SelectorsFit selectors_of last_row
 row-long ps [] is [] h l = l
@@ -106,13 +111,15 @@ row-long ps (inside ∷ more) is [] h l = absurd h
 row-long ps (inside ∷ more) is (ys ∷ yss) h l = row-long ps more (selectors_at ps is ys) yss h.1 (position-long ps inside is ys h.0 l)
 
 -- the row of each position has an index for each plane
-pub rows_long : (ps : List Plane) (insides : List Bool) (is : List ℕ) (yss : List (List ℕ)) (q : ℕ) → SelectorsFit ps insides is yss → length is ≡ length ps
+pub rows_long : (ps : List Plane) (insides : List Bool) (is : List ℕ) (yss : List (List ℕ)) (q : ℕ) → SelectorsFit ps insides is yss →
+    length is ≡ length ps
     → q < length insides → length (nth_list (selectors_of ps is yss) q) ≡ length ps
 unfolding SelectorsFit selectors_of nth_list
 rows_long ps [] is yss q h l b = absurd (omega arith)
 rows_long ps (inside ∷ more) is [] q h l b = absurd h
 rows_long ps (inside ∷ more) is (ys ∷ yss) zero h l b = position-long ps inside is ys h.0 l
-rows_long ps (inside ∷ more) is (ys ∷ yss) (suc q) h l b = rows_long ps more (selectors_at ps is ys) yss q h.1 (position-long ps inside is ys h.0 l)
+rows_long ps (inside ∷ more) is (ys ∷ yss) (suc q) h l b = rows_long ps more (selectors_at ps is ys) yss q h.1
+    (position-long ps inside is ys h.0 l)
     (omega arith)
 
 pub row-of : (is : List ℕ) (xss : List (List ℕ)) (k : ℕ) → get_or (last_row is xss) k 0 ≡ last_or (get_or is k 0) (column xss k)

@@ -35,7 +35,8 @@ last_mod : (n i : ℕ) (ys : List ℕ) → last_or i (indices n i ys) % n ≡ (i
 unfolding indices total last_or
 last_mod n i [] = ap (λ (x : ℕ). x % n) (sym (add-zero i))
 last_mod n i (y ∷ ys) =
-    last_mod n (stepped n i y) ys ∙ added n (stepped n i y) (i + y) (total ys) (stepped_mod n i y) ∙ ap (λ (x : ℕ). x % n) (add_assoc i y (total ys))
+    last_mod n (stepped n i y) ys ∙ added n (stepped n i y) (i + y) (total ys) (stepped_mod n i y) ∙ ap (λ (x : ℕ). x % n)
+    (add_assoc i y (total ys))
 
 -- ---- from chunk to chunk
 
@@ -46,7 +47,8 @@ carried n deltas i ds zero = i
 carried n deltas i [] (suc c) = i
 carried n deltas i (d ∷ ds) (suc c) = carried n deltas (last_or i (indices n i (deltas d))) ds c
 
-pub carried_mod : (n : ℕ) (deltas : Draws → List ℕ) (i : ℕ) (ds : List Draws) (c t : ℕ) → c < length ds → t < length (deltas (draws_at ds c))
+pub carried_mod : (n : ℕ) (deltas : Draws → List ℕ) (i : ℕ) (ds : List Draws) (c t : ℕ) → c < length ds → t < length
+    (deltas (draws_at ds c))
     → get_or (indices n (carried n deltas i ds c) (deltas (draws_at ds c))) t 0 % n ≡ (i + sum_up_to deltas ds c t) % n
 unfolding carried draws_at sum_up_to
 carried_mod n deltas i [] c t h g = absurd (omega arith)
@@ -60,4 +62,5 @@ carried_mod n deltas i (d ∷ ds) (suc c) t h g =
 pub index-sum : (n : ℕ) (deltas : Draws → List ℕ) (ds : List Draws) (c t : ℕ) → c < length ds → t < length (deltas (draws_at ds c))
     → get_or (indices n (carried n deltas 0 ds c) (deltas (draws_at ds c))) t 0 < n
     → get_or (indices n (carried n deltas 0 ds c) (deltas (draws_at ds c))) t 0 ≡ sum_up_to deltas ds c t % n
-index-sum n deltas ds c t h g l = sym (mod-eq_of_lt l) ∙ carried_mod n deltas 0 ds c t h g ∙ ap (λ (x : ℕ). x % n) (zero-add (sum_up_to deltas ds c t))
+index-sum n deltas ds c t h g l = sym (mod-eq_of_lt l) ∙ carried_mod n deltas 0 ds c t h g ∙ ap (λ (x : ℕ). x % n)
+    (zero-add (sum_up_to deltas ds c t))

@@ -37,7 +37,8 @@ unfolding run
 answered src a w b v e = let x : a ≡ b = cc in let y : w ≡ v = cc in (x, y)
 
 -- an answer made of another reading's
-went-made : {S A B : Type 0} (src : Source S) (m : Reading A) (k : A → B) (w : S) (b : B) (v : S) → run src (next m (λ a. answer (k a))) w ≡ got b v
+went-made : {S A B : Type 0} (src : Source S) (m : Reading A) (k : A → B) (w : S) (b : B) (v : S) → run src (next m (λ a. answer (k a))) w ≡
+    got b v
     → (a : A) × (run src m w ≡ got a v) × (b ≡ k a)
 went-made src m k w b v e =
     let g = went src m (λ a. answer (k a)) w b v e in
@@ -51,9 +52,11 @@ unfolding symbols
 symbols-append [] ys = refl
 symbols-append (x ∷ xs) ys = ap (λ (l : List ℕ). x.symbol ∷ l) (symbols-append xs ys)
 
-in_parts : (xs ys : List Sent) {ss ts : List ℕ} (us : List ℕ) → ss ≡ symbols xs ++ ts → ts ≡ symbols ys ++ us → ss ≡ symbols (xs ++ ys) ++ us
+in_parts : (xs ys : List Sent) {ss ts : List ℕ} (us : List ℕ) → ss ≡ symbols xs ++ ts → ts ≡ symbols ys ++ us → ss ≡ symbols (xs ++ ys) ++
+    us
 in_parts xs ys {ss} {ts} us e f =
-    e ∙ ap (λ (l : List ℕ). symbols xs ++ l) f ∙ sym (append_assoc (symbols xs) (symbols ys) us) ∙ ap (λ (l : List ℕ). l ++ us) (sym (symbols-append xs ys))
+    e ∙ ap (λ (l : List ℕ). symbols xs ++ l) f ∙ sym (append_assoc (symbols xs) (symbols ys) us) ∙ ap (λ (l : List ℕ). l ++ us)
+    (sym (symbols-append xs ys))
 
 symbol-taken : (ls ss : List ℕ) (y : ℕ) (rest : List ℕ) → run from_script (symbol ls) ss ≡ got y rest → ss ≡ y ∷ rest
 unfolding run then from_script
@@ -61,7 +64,8 @@ symbol-taken ls [] y rest e = never e
 symbol-taken ls (s ∷ ss) y rest e = let x : s ≡ y = cc in let z : ss ≡ rest = cc in cc
 
 -- a test that a reading makes before it answers
-tested : {A : Type 0} (b : Bool) (a : A) (n : ℕ) (w : List ℕ) (c : A) (v : List ℕ) → run from_script (pick b (answer a) (refuse n)) w ≡ got c v
+tested : {A : Type 0} (b : Bool) (a : A) (n : ℕ) (w : List ℕ) (c : A) (v : List ℕ) → run from_script (pick b (answer a) (refuse n)) w ≡ got
+    c v
     → (b ≡ true) × (a ≡ c) × (w ≡ v)
 tested true a n w c v e = let h = answered from_script a w c v e in (refl, h.0, h.1)
 tested false a n w c v e = unfold run in never e
@@ -79,7 +83,8 @@ endpoint-taken p i ss j rest e =
     (y, ltb-true _ _ t.0, symbol-taken p.endpoint_deltas ss y g.place g.first ∙ ap (λ (l : List ℕ). y ∷ l) t.2, sym t.1)
 
 indices-taken : (p : Plane) (n i : ℕ) (is ss xs rest : List ℕ) → run from_script (endpoint_indices p n i is) ss ≡ got xs rest
-    → (ys : List ℕ) × (length ys ≡ n) × AllBelow p.endpoints (indices p.endpoints i ys) × (ss ≡ symbols (in_code p.endpoint_deltas ys) ++ rest)
+    → (ys : List ℕ) × (length ys ≡ n) × AllBelow p.endpoints (indices p.endpoints i ys) ×
+    (ss ≡ symbols (in_code p.endpoint_deltas ys) ++ rest)
     × (xs ≡ is ++ indices p.endpoints i ys)
 unfolding endpoint_indices indices AllBelow in_code symbols
 indices-taken p zero i is ss xs rest e =
@@ -99,7 +104,8 @@ indices-taken p (suc n) i is ss xs rest e =
       b.4 ∙ append_assoc is (j ∷ []) (indices p.endpoints j b.0),
     )
 
-endpoints-taken : (ps : List Plane) (n : ℕ) (is ss : List ℕ) (xss : List (List ℕ)) (rest : List ℕ) → run from_script (plane_endpoints ps n is) ss ≡ got xss rest
+endpoints-taken : (ps : List Plane) (n : ℕ) (is ss : List ℕ) (xss : List (List ℕ)) (rest : List ℕ) → run from_script
+    (plane_endpoints ps n is) ss ≡ got xss rest
     → (yss : List (List ℕ)) × EndpointsFit ps n is yss × (ss ≡ symbols (endpoints_sent ps yss) ++ rest) × (xss ≡ endpoints_of ps is yss)
 unfolding plane_endpoints EndpointsFit endpoints_sent endpoints_of symbols
 endpoints-taken [] n is ss xss rest e = let h = answered {A = List (List ℕ)} from_script [] ss xss rest e in ([], refl, h.1, sym h.0)
@@ -122,11 +128,13 @@ used true inside e f = refl
 used false true e f = e
 used false false e f = f
 
-selector-taken : (p : Plane) (inside : Bool) (i : ℕ) (ss : List ℕ) (j : ℕ) (rest : List ℕ) → run from_script (selector_index p inside i) ss ≡ got j rest
+selector-taken : (p : Plane) (inside : Bool) (i : ℕ) (ss : List ℕ) (j : ℕ) (rest : List ℕ) → run from_script (selector_index p inside i) ss
+    ≡ got j rest
     → (y : ℕ) × (inside ≡ true → stepped p.selectors i y < p.selectors) × (ss ≡ y ∷ rest) × (j ≡ stepped p.selectors i y)
 unfolding selector_index
 selector-taken p inside i ss j rest e =
-    let k : ℕ → Reading ℕ = λ d. pick (either (ltb (stepped p.selectors i d) p.selectors) (not inside)) (answer (stepped p.selectors i d)) (refuse 14) in
+    let k : ℕ → Reading ℕ = λ d. pick (either (ltb (stepped p.selectors i d) p.selectors) (not inside)) (answer (stepped p.selectors i d))
+    (refuse 14) in
     let g = went from_script (symbol p.selector_deltas) k ss j rest e in
     let y = g.middle in
     let t = tested (either (ltb (stepped p.selectors i y) p.selectors) (not inside)) (stepped p.selectors i y) 14 g.place j rest g.second in (
@@ -136,13 +144,15 @@ selector-taken p inside i ss j rest e =
       sym t.1,
     )
 
-position-taken : (ps : List Plane) (inside : Bool) (is ss xs rest : List ℕ) → run from_script (plane_selectors ps inside is) ss ≡ got xs rest
+position-taken : (ps : List Plane) (inside : Bool) (is ss xs rest : List ℕ) → run from_script (plane_selectors ps inside is) ss ≡ got xs
+    rest
     → (ys : List ℕ) × PositionFits ps inside is ys × (ss ≡ symbols (position_sent ps ys) ++ rest) × (xs ≡ selectors_at ps is ys)
 unfolding plane_selectors PositionFits position_sent selectors_at symbols
 position-taken [] inside is ss xs rest e = let h = answered {A = List ℕ} from_script [] ss xs rest e in ([], refl, h.1, sym h.0)
 position-taken (p ∷ ps) inside [] ss xs rest e = let h = answered {A = List ℕ} from_script [] ss xs rest e in ([], refl, h.1, sym h.0)
 position-taken (p ∷ ps) inside (i ∷ is) ss xs rest e =
-    let g = went from_script (selector_index p inside i) (λ j. next (plane_selectors ps inside is) λ more. answer (j ∷ more)) ss xs rest e in
+    let g = went from_script (selector_index p inside i) (λ j. next (plane_selectors ps inside is) λ more. answer (j ∷ more)) ss xs rest e
+    in
     let a = selector-taken p inside i ss g.middle g.place g.first in
     let h = went-made from_script (plane_selectors ps inside is) (λ more. g.middle ∷ more) g.place xs rest g.second in
     let b = position-taken ps inside is g.place h.0 rest h.1 in (
@@ -152,9 +162,11 @@ position-taken (p ∷ ps) inside (i ∷ is) ss xs rest e =
       h.2 ∙ ap (λ (x : ℕ). x ∷ h.0) a.3 ∙ ap (λ (x : List ℕ). stepped p.selectors i a.0 ∷ x) b.3,
     )
 
-selectors-taken : (ps : List Plane) (insides : List Bool) (is : List ℕ) (rows : List (List ℕ)) (ss : List ℕ) (xss : List (List ℕ)) (rest : List ℕ)
+selectors-taken : (ps : List Plane) (insides : List Bool) (is : List ℕ) (rows : List (List ℕ)) (ss : List ℕ) (xss : List (List ℕ))
+    (rest : List ℕ)
     → run from_script (position_selectors ps insides is rows) ss ≡ got xss rest
-    → (yss : List (List ℕ)) × SelectorsFit ps insides is yss × (ss ≡ symbols (selectors_sent ps yss) ++ rest) × (xss ≡ rows ++ selectors_of ps is yss)
+    → (yss : List (List ℕ)) × SelectorsFit ps insides is yss × (ss ≡ symbols (selectors_sent ps yss) ++ rest) ×
+    (xss ≡ rows ++ selectors_of ps is yss)
 unfolding position_selectors SelectorsFit selectors_sent selectors_of symbols
 selectors-taken ps [] is rows ss xss rest e =
     let h = answered from_script rows ss xss rest e in ([], refl, h.1, sym h.0 ∙ sym (append-nil rows))
@@ -177,7 +189,8 @@ encoding-taken : (table pending ss : List ℕ) (a : ℕ × List ℕ) (rest : Lis
     → (ys : List ℕ) × SymbolFits pending ys × (ss ≡ symbols (in_code table ys) ++ rest)
     × (a ≡ (get_or (encodings pending ys) 0 0, drop 1 (encodings pending ys)))
 unfolding encoding SymbolFits in_code encodings symbols
-encoding-taken table (e ∷ pending) ss a rest h = let t = answered {A = ℕ × List ℕ} from_script (e, pending) ss a rest h in ([], refl, t.1, sym t.0)
+encoding-taken table (e ∷ pending) ss a rest h = let t = answered {A = ℕ × List ℕ} from_script (e, pending) ss a rest h in
+    ([], refl, t.1, sym t.0)
 encoding-taken table [] ss a rest h =
     let k : ℕ → Reading (ℕ × List ℕ) = λ s. pick (ltb s chunk_symbols) (answer (s % 8, s / 8 % 8 ∷ s / 64 % 8 ∷ [])) (refuse 13) in
     let g = went from_script (symbol table) k ss a rest h in
@@ -200,9 +213,11 @@ module _ (table : List ℕ) (ps : List Plane) where
       let es = encodings r.pending x.0 in
       let s : run from_script (ends_then (get_or es 0 0, drop 1 es)) g.place ≡ got a rest
       = subst (λ (y : ℕ × List ℕ). run from_script (ends_then y) g.place ≡ got a rest) x.3 g.second in
-      let h = went from_script (plane_endpoints ps (get_or tile_counts (get_or es 0 0) 0) r.endpoint) (sels_then (get_or es 0 0, drop 1 es)) g.place a rest s in
+      let h = went from_script (plane_endpoints ps (get_or tile_counts (get_or es 0 0) 0) r.endpoint) (sels_then (get_or es 0 0, drop 1 es))
+      g.place a rest s in
       let y = endpoints-taken ps (get_or tile_counts (get_or es 0 0) 0) r.endpoint g.place h.middle h.place h.first in
-      let k = went-made from_script (position_selectors ps inside r.selector []) (made (get_or es 0 0, drop 1 es) h.middle) h.place a rest h.second in
+      let k = went-made from_script (position_selectors ps inside r.selector []) (made (get_or es 0 0, drop 1 es) h.middle) h.place a rest
+      h.second in
       let z = selectors-taken ps inside r.selector [] h.place k.0 rest k.1 in (
         record { symbols = x.0; endpoints = y.0; selectors = z.0 },
         record { symbol = x.1; endpoints = y.1; selectors = z.1 },
@@ -213,8 +228,11 @@ module _ (table : List ℕ) (ps : List Plane) where
       )
     where
       made : ℕ × List ℕ → List (List ℕ) → List (List ℕ) → Chunk × Running
-      made e t q =
-          (record { encoding = e.0; tiles = t; positions = q }, record { pending = e.1; endpoint = lasts r.endpoint t; selector = last_row r.selector q })
+      made e t q = (
+        record { encoding = e.0; tiles = t; positions = q },
+        record
+            { pending = e.1; endpoint = lasts r.endpoint t; selector = last_row r.selector q },
+      )
 
       sels_then : ℕ × List ℕ → List (List ℕ) → Reading (Chunk × Running)
       sels_then e t = next (position_selectors ps inside r.selector []) (λ q. answer (made e t q))
@@ -223,7 +241,8 @@ module _ (table : List ℕ) (ps : List Plane) where
       ends_then e = next (plane_endpoints ps (get_or tile_counts e.0 0) r.endpoint) (sels_then e)
 
   chunks-taken : (insides : List (List Bool)) (r : Running) (cs : List Chunk) (ss : List ℕ) (a : List Chunk × Running) (rest : List ℕ)
-      → run from_script (chunks table ps insides r cs) ss ≡ got a rest → (ds : List Draws) × Fits ps insides r ds × (ss ≡ symbols (level_sent table ps ds) ++ rest)
+      → run from_script (chunks table ps insides r cs) ss ≡ got a rest → (ds : List Draws) × Fits ps insides r ds ×
+      (ss ≡ symbols (level_sent table ps ds) ++ rest)
   unfolding chunks Fits level_sent symbols
   chunks-taken [] r cs ss a rest e = ([], refl, (answered {A = List Chunk × Running} from_script (cs, r) ss a rest e).1)
   chunks-taken (inside ∷ more) r cs ss a rest e =

@@ -46,7 +46,8 @@ module _ (v : Given) (c : Passes v) where
   -- the script is the only one
   pub only-script : (cs ds : List Draws) → ScriptOf v cs → ScriptOf v ds → cs ≡ ds
   only-script cs ds s t =
-      level-same (table v) (planes_of v.opened) (insides (grid_in v) 0 (chunk_count (grid_in v))) (fresh (planes_of v.opened)) cs ds s.fits t.fits
+      level-same (table v) (planes_of v.opened) (insides (grid_in v) 0 (chunk_count (grid_in v))) (fresh (planes_of v.opened)) cs ds s.fits
+      t.fits
       (sym (took v cs c.tables s).takes ∙ (took v ds c.tables t).takes)
 
   -- where the budget allows for the script, as many symbols are drawn as it has, and every block of every face is given by its position

@@ -36,14 +36,16 @@ fewer {S} src (want x f) w = by (src.serve x w) (λ s v. fewer src (f s) v)
 fewer src (mark m) w = fewer src m (src.marked w)
 
 -- a run that accepts tries as many draws as it takes symbols
-pub as_many : {S A : Type 0} (src : Source S) (m : Reading A) (w : S) {a : A} {v : S} → run src m w ≡ got a v → tried src m w ≡ length (taken src m w)
+pub as_many : {S A : Type 0} (src : Source S) (m : Reading A) (w : S) {a : A} {v : S} → run src m w ≡ got a v → tried src m w ≡ length
+    (taken src m w)
 unfolding run then taken taking tried tried_then
 as_many src (answer b) w e = refl
 as_many src (refuse n) w e = refl
 as_many {S} src (want x f) w {a} {v} e = by (src.serve x w) (λ s u. as_many src (f s) u) e
   where
     by : (y : Step S ℕ) → ((s : ℕ) (u : S) → run src (f s) u ≡ got a v → tried src (f s) u ≡ length (taken src (f s) u))
-        → then y (λ s u. run src (f s) u) ≡ got a v → suc (tried_then y (λ s u. tried src (f s) u)) ≡ length (taking y (λ s u. taken src (f s) u))
+        → then y (λ s u. run src (f s) u) ≡ got a v → suc (tried_then y (λ s u. tried src (f s) u)) ≡ length
+        (taking y (λ s u. taken src (f s) u))
     by (got s u) ih e = ap suc (ih s u e)
     by (refused n u) ih e = let z : ◌≡◌ {A = ℕ} 0 1 = cc in absurd (omega arith)
 as_many src (mark m) w e = as_many src m (src.marked w) e
@@ -68,7 +70,8 @@ module _ (src : Source Place) where
           → ((s : ℕ) (v : Place) (k : ℕ) → tried src (f s) v ≤ k
           → run (budgeted src) (f s) (spending v k) ≡ leaving (k - length (taken src (f s) v)) (run src (f s) v))
           → suc (tried_then y (λ s v. tried src (f s) v)) ≤ l
-          → run (budgeted src) (want x f) (spending w l) ≡ leaving (l - length (taking y (λ s v. taken src (f s) v))) (then y (λ s v. run src (f s) v))
+          → run (budgeted src) (want x f) (spending w l) ≡ leaving (l - length (taking y (λ s v. taken src (f s) v)))
+          (then y (λ s v. run src (f s) v))
       by (got s v) q ih h =
           let e : l - 1 - length (taken src (f s) v) ≡ l - suc (length (taken src (f s) v)) = omega arith in
           unfold charged in rw (q, some _ h) (rw e at (ih s v (l - 1) (omega arith)))
@@ -84,7 +87,8 @@ module _ (src : Source Place) where
   short {A} (want x f) w (suc l) h = by (src.serve x w) refl (λ s v. short (f s) v l) h
     where
       by : (y : Step Place ℕ) → src.serve x w ≡ y
-          → ((s : ℕ) (v : Place) → l < tried src (f s) v → (p : ℕ) × (run (budgeted src) (f s) (spending v l) ≡ refused 15 (spending (spot p p) 0)))
+          → ((s : ℕ) (v : Place) → l < tried src (f s) v → (p : ℕ) ×
+          (run (budgeted src) (f s) (spending v l) ≡ refused 15 (spending (spot p p) 0)))
           → suc l < suc (tried_then y (λ s v. tried src (f s) v))
           → (p : ℕ) × (run (budgeted src) (want x f) (spending w (suc l)) ≡ refused 15 (spending (spot p p) 0))
       by (got s v) q ih h =

@@ -31,7 +31,8 @@ use Rattle.crn_levels.specs.Several.{Ended, Gives}
 use Rattle.crn_levels.specs.declared.Several.{Several}
 use Rattle.crn_laws_results.specs.Settled.{Settled, SettledIf, alike, alike₂}
 
-pub open-settled : Settled {X = Opened × Palettes} opening.Post (λ a r (file, (ce, (cs, (ae, (al, _))))). (r, lent_of ce.now cs.now ae.now al.now))
+pub open-settled : Settled {X = Opened × Palettes} opening.Post (λ a r (file, (ce, (cs, (ae, (al, _))))).
+    (r, lent_of ce.now cs.now ae.now al.now))
 open-settled _ _ _ _ _ _ _ p q = alike₂ p.answer q.answer p.leaves q.leaves
 
 pub open_into-settled : Settled {X = Opened × Palettes} open-into.Post
@@ -76,7 +77,8 @@ answers-apart (Refused n k b) (Blocks m c) d e h = let z : ◌≡◌ {A = ℕ} 0
 answers-apart (Refused n k b) (Refused m l c) d e h =
     let x : n ≡ m = cc in let y : k ≡ l = cc in let w : b ≡ c = cc in let z : d ≡ e = cc in ((λ i. Refused (x i) (y i) (w i)), z)
 
-pub unpacks-settled : {u : Unpacking} {budget left₁ left₂ : ℕ} {d e : List ℕ} {r s : Unpacked} → Unpacks u budget left₁ d r → Unpacks u budget left₂ e s
+pub unpacks-settled : {u : Unpacking} {budget left₁ left₂ : ℕ} {d e : List ℕ} {r s : Unpacked} → Unpacks u budget left₁ d r → Unpacks u
+    budget left₂ e s
     → ◌≡◌ {A = Unpacked × (ℕ × List ℕ)} (r, (left₁, d)) (s, (left₂, e))
 unpacks-settled {left₁ = m} {left₂ = n} {d = d} {e = e} {r = r} {s = s} p q =
     let same = answers-apart r s d e (alike p.answer q.answer) in
@@ -85,12 +87,14 @@ unpacks-settled {left₁ = m} {left₂ = n} {d = d} {e = e} {r = r} {s = s} p q 
     λ i. (same.0 i, (left i, same.1 i))
 
 -- by tables that decode some codes
-pub draw_chunks-settled : SettledIf {X = Unpacked × (ℕ × List ℕ)} (λ (format, (ps, (lookup, (sorted, _)))) r. Served ps lookup.now sorted.now) draw-chunks.Post
+pub draw_chunks-settled : SettledIf {X = Unpacked × (ℕ × List ℕ)}
+    (λ (format, (ps, (lookup, (sorted, _)))) r. Served ps lookup.now sorted.now) draw-chunks.Post
     (λ a r (format, (ps, (lookup, (sorted, (seg, (ce, (cs, (ae, (al, (grid, (budget, (dst, _)))))))))))). (r, (budget.now, dst.now)))
 draw_chunks-settled _ _ _ _ _ _ _ some _ p q = unpacks-settled (p some.codes some.coded) (q some.codes some.coded)
 
 pub draw_level-settled : Settled {X = Unpacked × (ℕ × List ℕ)} draw-level.Post
-    (λ a r (header, (counts, (t₁, (t₂, (t₃, (t₄, (t₅, (seg, (ce, (cs, (ae, (al, (grid, (budget, (dst, _))))))))))))))). (r, (budget.now, dst.now)))
+    (λ a r (header, (counts, (t₁, (t₂, (t₃, (t₄, (t₅, (seg, (ce, (cs, (ae, (al, (grid, (budget, (dst, _))))))))))))))).
+    (r, (budget.now, dst.now)))
 draw_level-settled _ _ _ _ _ _ _ p q = unpacks-settled p q
 
 pub unpack_level-settled : Settled {X = Unpacked × (ℕ × List ℕ)} unpack-level.Post
@@ -98,13 +102,42 @@ pub unpack_level-settled : Settled {X = Unpacked × (ℕ × List ℕ)} unpack-le
 unpack_level-settled _ _ _ _ _ _ _ p q = unpacks-settled p q
 
 pub unpack_level_by-settled : Settled {X = Unpacked × (ℕ × List ℕ)} unpack-level-by.Post
-    (λ a r (header, (counts, (t₁, (t₂, (t₃, (t₄, (t₅, (bytes, (ce, (cs, (ae, (al, (level, (pitch, (distance, (budget, (dst, _))))))))))))))))).
+    (λ a r (
+      header,
+      (
+        counts,
+        (
+          t₁,
+          (
+            t₂,
+            (
+              t₃,
+              (
+                t₄,
+                (
+                  t₅,
+                  (
+                    bytes,
+                    (
+                      ce,
+                      (cs, (ae, (al, (level, (pitch, (distance, (budget, (dst, _)))))))),
+                    ),
+                  ),
+                ),
+              ),
+            ),
+          ),
+        ),
+      ),
+    ).
     (r, (budget.now, dst.now)))
 unpack_level_by-settled _ _ _ _ _ _ _ p q = unpacks-settled p q
 
 -- by decoder tables of some record
-pub unpack_made-settled : SettledIf {X = Unpacked × (ℕ × List ℕ)} (λ (header, (s, (lookup, (sorted, _)))) r. Tabled header s lookup.now sorted.now) unpack-made.Post
-    (λ a r (header, (s, (lookup, (sorted, (bytes, (ce, (cs, (ae, (al, (level, (pitch, (distance, (budget, (dst, _)))))))))))))). (r, (budget.now, dst.now)))
+pub unpack_made-settled : SettledIf {X = Unpacked × (ℕ × List ℕ)}
+    (λ (header, (s, (lookup, (sorted, _)))) r. Tabled header s lookup.now sorted.now) unpack-made.Post
+    (λ a r (header, (s, (lookup, (sorted, (bytes, (ce, (cs, (ae, (al, (level, (pitch, (distance, (budget, (dst, _)))))))))))))).
+    (r, (budget.now, dst.now)))
 unpack_made-settled _ _ _ _ _ _ _ some _ p q = unpacks-settled (p some.of some.made) (q some.of some.made)
 
 -- ---- several levels
@@ -114,5 +147,6 @@ pub gives-settled : {w : Ended} {left₁ left₂ : ℕ} {d e : List ℕ} {r s : 
 gives-settled p q = λ i. (alike p.answer q.answer i, alike₂ p.budget q.budget p.leaves q.leaves i)
 
 pub unpack_levels-settled : Settled {X = Several × (ℕ × List ℕ)} unpack-levels.Post
-    (λ a r (header, (counts, (t₁, (t₂, (t₃, (t₄, (t₅, (bytes, (ce, (cs, (ae, (al, (first, (budget, (dst, _))))))))))))))). (r, (budget.now, dst.now)))
+    (λ a r (header, (counts, (t₁, (t₂, (t₃, (t₄, (t₅, (bytes, (ce, (cs, (ae, (al, (first, (budget, (dst, _))))))))))))))).
+    (r, (budget.now, dst.now)))
 unpack_levels-settled _ _ _ _ _ _ _ p q = gives-settled p q

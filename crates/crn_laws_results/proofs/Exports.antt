@@ -48,12 +48,40 @@ pub crunch_load_parts-settled : Settled {X = Opened × Palettes} crunch-load-par
 crunch_load_parts-settled _ _ _ _ _ _ _ p q = loads-settled p q
 
 pub crunch_unpack_level_parts-settled : Settled {X = Answer × (ℕ × List ℕ)} crunch-unpack-level-parts.Post
-    (λ a r (header, (counts, (t₁, (t₂, (t₃, (t₄, (t₅, (bytes, (ce, (cs, (ae, (al, (level, (pitch, (distance, (budget, (dst, _))))))))))))))))).
+    (λ a r (
+      header,
+      (
+        counts,
+        (
+          t₁,
+          (
+            t₂,
+            (
+              t₃,
+              (
+                t₄,
+                (
+                  t₅,
+                  (
+                    bytes,
+                    (
+                      ce,
+                      (cs, (ae, (al, (level, (pitch, (distance, (budget, (dst, _)))))))),
+                    ),
+                  ),
+                ),
+              ),
+            ),
+          ),
+        ),
+      ),
+    ).
     (r, (budget.now, dst.now)))
 crunch_unpack_level_parts-settled _ _ _ _ _ _ _ p q =
     let same = unpacks-settled p.unpacks q.unpacks in
     λ i. ((p.same ∙ ap (λ (x : Unpacked × (ℕ × List ℕ)). answer_of x.0) same ∙ sym q.same) i, (same i).1)
 
 pub crunch_unpack_levels_parts-settled : Settled {X = Several × (ℕ × List ℕ)} crunch-unpack-levels-parts.Post
-    (λ a r (header, (counts, (t₁, (t₂, (t₃, (t₄, (t₅, (bytes, (ce, (cs, (ae, (al, (first, (budget, (dst, _))))))))))))))). (r, (budget.now, dst.now)))
+    (λ a r (header, (counts, (t₁, (t₂, (t₃, (t₄, (t₅, (bytes, (ce, (cs, (ae, (al, (first, (budget, (dst, _))))))))))))))).
+    (r, (budget.now, dst.now)))
 crunch_unpack_levels_parts-settled _ _ _ _ _ _ _ p q = gives-settled p q

@@ -42,13 +42,16 @@ quick_read_chunk-settled _ _ _ _ _ _ _ h _ p q = alike (p.same h.codes h.coded) 
 -- ---- a chunk's blocks
 
 -- a painting tells every byte: of a block whose turn it is, and of all else
-module _ {g : Grid} {value : ℕ → List ℕ} {a b : ℕ} {d e f : List ℕ} (room : Room g (length d)) (p : Painted g value a b d e) (q : Painted g value a b d f) where
-  both-kept : (k : ℕ) → ((i x y : ℕ) → In g i x y → a ≤ turn g i x y → turn g i x y < b → Within g i x y k → ⊥) → get_or e k 0 ≡ get_or f k 0
+module _ {g : Grid} {value : ℕ → List ℕ} {a b : ℕ} {d e f : List ℕ} (room : Room g (length d)) (p : Painted g value a b d e)
+    (q : Painted g value a b d f) where
+  both-kept : (k : ℕ) → ((i x y : ℕ) → In g i x y → a ≤ turn g i x y → turn g i x y < b → Within g i x y k → ⊥) → get_or e k 0 ≡ get_or f k
+      0
   both-kept k off = p.kept k off ∙ sym (q.kept k off)
 
   held_by : (k : ℕ) → Holder g k → get_or e k 0 ≡ get_or f k 0
   held_by k h = ⊎_elim (λ early. both-kept k (λ i x y at lo hi w. let t = same i x y at w in omega arith))
-      (λ lo. ⊎_elim (λ hi. drawn lo hi) (λ late. both-kept k (λ i x y at _ hi w. let t = same i x y at w in omega arith)) (below_or here b)) (below_or here a)
+      (λ lo. ⊎_elim (λ hi. drawn lo hi) (λ late. both-kept k (λ i x y at _ hi w. let t = same i x y at w in omega arith)) (below_or here b))
+      (below_or here a)
     where
       here : ℕ
       here = turn g h.face h.column h.row
@@ -68,7 +71,8 @@ module _ {g : Grid} {value : ℕ → List ℕ} {a b : ℕ} {d e f : List ℕ} (r
       drawn lo hi =
           let is : start + (k - start) ≡ k = omega (arith, h.holds.starts) in
           let small : k - start < g.bytes = omega (arith, h.holds.ends, h.holds.starts) in
-          rw is at (p.drawn h.face h.column h.row (k - start) h.at small lo hi ∙ sym (q.drawn h.face h.column h.row (k - start) h.at small lo hi))
+          rw is at (p.drawn h.face h.column h.row (k - start) h.at small lo hi ∙ sym
+          (q.drawn h.face h.column h.row (k - start) h.at small lo hi))
 
   pub painted_once : e ≡ f
   painted_once =

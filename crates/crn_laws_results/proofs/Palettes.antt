@@ -93,7 +93,8 @@ few-settled _ _ _ _ _ _ _ p q = alike p q
 -- ---- the table of pairs, which has 450 bytes as its type says
 
 -- the pair of symbol s
-pair_fixed : {t : List ℕ} → AllDeltas t → (s : ℕ) → (get_or t (2 * s) 0 ≡ (alpha_deltas s).first) × (get_or t (2 * s + 1) 0 ≡ (alpha_deltas s).second)
+pair_fixed : {t : List ℕ} → AllDeltas t → (s : ℕ) → (get_or t (2 * s) 0 ≡ (alpha_deltas s).first) ×
+    (get_or t (2 * s + 1) 0 ≡ (alpha_deltas s).second)
 pair_fixed {t} h s =
     let d = (h.each s (record { first = get_or t (2 * s) 0; second = get_or t (2 * s + 1) 0 }) (record { value = refl })).rule in
     (ap (λ (x : Deltas). x.first) d, ap (λ (x : Deltas). x.second) d)

@@ -16,7 +16,16 @@ use Rattle.crn_laws_total.specs.Leaves.{InBlock, Leaves}
 -- a byte of a block, by its number there or by where the block starts and ends
 within : {g : Grid} {f x y i : ℕ} → In g f x y → Within g f x y i → InBlock g i
 within {g} {f} {x} {y} {i} at w =
-    record { face = f; column = x; row = y; byte = i - place_of g f x y; block = at; small = omega (arith, w.starts, w.ends); here = omega (arith, w.starts) }
+    record {
+      face = f;
+      column = x;
+      row = y;
+      byte = i - place_of g f x y;
+      block = at;
+      small = omega (arith, w.starts, w.ends);
+      here = omega
+          (arith, w.starts);
+    }
 
 not_within : {g : Grid} {i : ℕ} → Free g i → InBlock g i → ⊥
 not_within free b = free b.face b.column b.row b.block (record { starts = omega (arith, b.here); ends = omega (arith, b.here, b.small) })
@@ -55,7 +64,8 @@ same-leaves {a = a} {c = c} l m =
 
 -- ---- where every block lies in the first m bytes
 
-module _ {g : Grid} (m : ℕ) (low : (f x y : ℕ) → In g f x y → place_of g f x y + g.bytes ≤ m) {byte : ℕ → ℕ → ℕ → ℕ → ℕ} {b a : List ℕ} (l : Leaves g byte b a) where
+module _ {g : Grid} (m : ℕ) (low : (f x y : ℕ) → In g f x y → place_of g f x y + g.bytes ≤ m) {byte : ℕ → ℕ → ℕ → ℕ → ℕ} {b a : List ℕ}
+    (l : Leaves g byte b a) where
   -- these are left as all is
   pub first-leaves : Leaves g byte (take m b) (take m a)
   first-leaves =
@@ -63,7 +73,8 @@ module _ {g : Grid} (m : ℕ) (low : (f x y : ℕ) → In g f x y → place_of g
         long = simp length-take (ap (min m) l.long);
         fits = λ f x y at. simp length-take (omega (arith, low f x y at, l.fits f x y at));
         blocks = λ f x y k at h. get_or-take m a (place_of g f x y + k) 0 (omega (arith, low f x y at)) ∙ l.blocks f x y k at h;
-        others = λ i out. ⊎_elim (λ h. get_or-take m a i 0 h ∙ l.others i out ∙ sym (get_or-take m b i 0 h)) (λ h. past a i h ∙ sym (past b i h)) (below_or i m);
+        others = λ i out. ⊎_elim (λ h. get_or-take m a i 0 h ∙ l.others i out ∙ sym (get_or-take m b i 0 h))
+            (λ h. past a i h ∙ sym (past b i h)) (below_or i m);
         each = l.each;
       }
     where
@@ -74,4 +85,5 @@ module _ {g : Grid} (m : ℕ) (low : (f x y : ℕ) → In g f x y → place_of g
   pub behind-same : drop m a ≡ drop m b
   behind-same =
       ext_get_or 0 (drop m a) (drop m b) (simp length-drop (ap (λ (n : ℕ). n - m) l.long))
-      (λ i _. get_or-drop m a i 0 ∙ l.others (m + i) (λ h. omega (arith, h.here, h.small, low h.face h.column h.row h.block)) ∙ sym (get_or-drop m b i 0))
+      (λ i _. get_or-drop m a i 0 ∙ l.others (m + i) (λ h. omega (arith, h.here, h.small, low h.face h.column h.row h.block)) ∙ sym
+      (get_or-drop m b i 0))

@@ -162,7 +162,8 @@ module _ (r : Record) (file : List ℕ) (p : Palettes) (n budget : ℕ) (d : Lis
       let same : k.chunks ≡ l.chunks = cc in
       same-leaves
       (subst
-      (λ (cs : List Chunk). Leaves g (λ f x y i. get_or (block_at g (shades_of (kind_of r.header.format) p) cs f x y) i 0) (take bytes d) shown)
+      (λ (cs : List Chunk). Leaves g (λ f x y i. get_or (block_at g (shades_of (kind_of r.header.format) p) cs f x y) i 0) (take bytes d)
+      shown)
       same k.leaves)
       (first-leaves bytes lies_low l.leaves)
 

@@ -70,12 +70,15 @@ module _ (r : Record) (file : List ℕ) (p : Palettes) (n pitch distance budget 
   -- ---- in the stream
 
   module _ (room : Room (grid_of r.header n pitch distance) (length dst)) where
-    sized : (cs : List Chunk) (w : Spending) → run (budgeted (from_bits seg)) (level_reading r g) (record { place = start; left = budget }) ≡ got cs w
+    sized : (cs : List Chunk) (w : Spending) → run (budgeted (from_bits seg)) (level_reading r g) (record { place = start; left = budget })
+        ≡ got cs w
         → (f x y : ℕ) → In g f x y → length (block_at g shades cs f x y) ≡ g.bytes
     unfolding grid_of
     sized cs w e f x y at =
-        block-sized (budgeted (from_bits seg)) (lengths_of r.tables.chunk_encoding) (planes_of r) g (record { place = start; left = budget })
-        (through (budgeted (from_bits seg)) (lengths_of r.tables.chunk_encoding) (planes_of r) g (record { place = start; left = budget }) (chunk_count g) e)
+        block-sized (budgeted (from_bits seg)) (lengths_of r.tables.chunk_encoding) (planes_of r) g
+        (record { place = start; left = budget })
+        (through (budgeted (from_bits seg)) (lengths_of r.tables.chunk_encoding) (planes_of r) g (record { place = start; left = budget })
+        (chunk_count g) e)
         shades (planes-long (kind_of r.header.format) _ _ _ _) f x y at
         ∙ planes-bytes (kind_of r.header.format) (color p.color_ends p.color_sels) (alpha p.alpha_ends p.alpha_sels)
 
@@ -83,7 +86,8 @@ module _ (r : Record) (file : List ℕ) (p : Palettes) (n pitch distance budget 
         → run (budgeted (from_bits seg)) (level_reading r g) (record { place = start; left = budget }) ≡ got cs w
         → Leaves g (λ f x y k. get_or (block_at g shades cs f x y) k 0) dst (painted g (block_at g shades cs) g.faces dst)
     left cs w e =
-        painted-leaves dst room (block_at g shades cs) (sized cs w e) (λ f x y k. get_or (block_at g shades cs f x y) k 0) (λ f x y k _. refl)
+        painted-leaves dst room (block_at g shades cs) (sized cs w e) (λ f x y k. get_or (block_at g shades cs f x y) k 0)
+        (λ f x y k _. refl)
 
     -- what is drawn is what is not left
     whole : (y : Step Spending (List Chunk))
@@ -95,7 +99,8 @@ module _ (r : Record) (file : List ℕ) (p : Palettes) (n pitch distance budget 
         (left_falls (from_bits seg) (level_reading r g) (record { place = start; left = budget })) in
         omega arith
 
-    by_run : (y : Step Spending (List Chunk)) → run (budgeted (from_bits seg)) (level_reading r g) (record { place = start; left = budget }) ≡ y → Stops ok y
+    by_run : (y : Step Spending (List Chunk)) → run (budgeted (from_bits seg)) (level_reading r g) (record { place = start; left = budget })
+        ≡ y → Stops ok y
         → LevelEnds r file p n pitch distance budget dst (ended (kind_of r.header.format) g shades budget dst y)
     unfolding ended
     by_run (got cs w) e stops =
@@ -124,7 +129,8 @@ module _ (r : Record) (file : List ℕ) (p : Palettes) (n pitch distance budget 
   -- ---- the checks
 
   -- where each test holds, the grid has room
-  pub has_room : within_limits h ≡ true → tables_hold r.tables ≡ true → ltb n h.levels ≡ true → level_stands file h n ≡ true → palettes_reach h p ≡ true
+  pub has_room : within_limits h ≡ true → tables_hold r.tables ≡ true → ltb n h.levels ≡ true → level_stands file h n ≡ true →
+      palettes_reach h p ≡ true
       → grid_fits g ≡ true → leb (reach g) (length dst) ≡ true → Room (grid_of r.header n pitch distance) (length dst)
   has_room e₁ e₂ e₃ e₄ e₅ e₆ e₇ = (all-checked r file p n pitch distance (length dst) refl none refl {seg = []} (omega arith) refl).room
     where
@@ -134,10 +140,12 @@ module _ (r : Record) (file : List ℕ) (p : Palettes) (n pitch distance budget 
   pub level-ends : LevelEnds r file p n pitch distance budget dst (unpacking r file p n pitch distance budget dst)
   unfolding unpacking
   level-ends =
-      by (within_limits h) (tables_hold r.tables) (ltb n h.levels) (level_stands file h n) (palettes_reach h p) (grid_fits g) (leb (reach g) (length dst))
+      by (within_limits h) (tables_hold r.tables) (ltb n h.levels) (level_stands file h n) (palettes_reach h p) (grid_fits g)
+      (leb (reach g) (length dst))
       refl refl refl refl refl refl refl
     where
-      by : (a b c d e f k : Bool) → within_limits h ≡ a → tables_hold r.tables ≡ b → ltb n h.levels ≡ c → level_stands file h n ≡ d → palettes_reach h p ≡ e
+      by : (a b c d e f k : Bool) → within_limits h ≡ a → tables_hold r.tables ≡ b → ltb n h.levels ≡ c → level_stands file h n ≡ d →
+          palettes_reach h p ≡ e
           → grid_fits g ≡ f → leb (reach g) (length dst) ≡ k
           → LevelEnds r file p n pitch distance budget dst
           (pick a

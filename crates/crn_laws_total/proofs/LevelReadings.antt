@@ -21,7 +21,8 @@ module _ (ok : ℕ → Bool) (fourteen : ok 14 ≡ true) where
   a_selector : (p : Plane) (inside : Bool) (i : ℕ) → Refuses ok (selector_index p inside i)
   unfolding selector_index
   a_selector p inside i =
-      symbol-then ok p.selector_deltas _ (λ d. by_test ok (either (ltb (stepped p.selectors i d) p.selectors) (not inside)) _ _ (answers ok _)
+      symbol-then ok p.selector_deltas _ (λ d. by_test ok (either (ltb (stepped p.selectors i d) p.selectors) (not inside)) _ _
+      (answers ok _)
       (refusing ok ℕ 14 fourteen))
 
   endpoints : (p : Plane) (n i : ℕ) (is : List ℕ) → Refuses ok (endpoint_indices p n i is)
@@ -47,7 +48,8 @@ module _ (ok : ℕ → Bool) (fourteen : ok 14 ≡ true) where
   selectors (p ∷ ps) inside (i ∷ is) =
       put-before (selector_index p inside i) (plane_selectors ps inside is) (a_selector p inside i) (selectors ps inside is)
 
-  positions : (ps : List Plane) (insides : List Bool) (is : List ℕ) (rows : List (List ℕ)) → Refuses ok (position_selectors ps insides is rows)
+  positions : (ps : List Plane) (insides : List Bool) (is : List ℕ) (rows : List (List ℕ)) → Refuses ok
+      (position_selectors ps insides is rows)
   unfolding position_selectors
   positions ps [] is rows = answers ok rows
   positions ps (inside ∷ more) is rows =
@@ -56,7 +58,8 @@ module _ (ok : ℕ → Bool) (fourteen : ok 14 ≡ true) where
   module _ (thirteen : ok 13 ≡ true) (table : List ℕ) (ps : List Plane) where
     an_encoding : (pending : List ℕ) → Refuses ok (encoding table pending)
     unfolding encoding
-    an_encoding [] = symbol-then ok table _ (λ s. by_test ok (ltb s chunk_symbols) _ _ (answers ok _) (refusing ok (ℕ × List ℕ) 13 thirteen))
+    an_encoding [] = symbol-then ok table _ (λ s. by_test ok (ltb s chunk_symbols) _ _ (answers ok _)
+        (refusing ok (ℕ × List ℕ) 13 thirteen))
     an_encoding (e ∷ pending) = answers ok (e, pending)
 
     a_chunk : (inside : List Bool) (r : Running) → Refuses ok (chunk table ps inside r)
@@ -69,7 +72,8 @@ module _ (ok : ℕ → Bool) (fourteen : ok 14 ≡ true) where
     all-chunks : (insides : List (List Bool)) (r : Running) (cs : List Chunk) → Refuses ok (chunks table ps insides r cs)
     unfolding chunks
     all-chunks [] r cs = answers ok (cs, r)
-    all-chunks (inside ∷ more) r cs = one_then ok (chunk table ps inside r) _ (a_chunk inside r) (λ a. all-chunks more a.1 (cs ++ (a.0 ∷ [])))
+    all-chunks (inside ∷ more) r cs = one_then ok (chunk table ps inside r) _ (a_chunk inside r)
+        (λ a. all-chunks more a.1 (cs ++ (a.0 ∷ [])))
 
     pub level_refuses : (insides : List (List Bool)) → Refuses ok (level table ps insides)
     unfolding level

@@ -14,7 +14,8 @@ module _ (n : ℕ) where
   among_first [] ns e = absurd (false≢true e)
   among_first (m ∷ ms) ns e = by (eqb n m) (among_first ms ns) e
     where
-      by : (t : Bool) → (among n ms ≡ true → among n (ms ++ ns) ≡ true) → either t (among n ms) ≡ true → either t (among n (ms ++ ns)) ≡ true
+      by : (t : Bool) → (among n ms ≡ true → among n (ms ++ ns) ≡ true) → either t (among n ms) ≡ true → either t (among n (ms ++ ns)) ≡
+          true
       by true rest e = refl
       by false rest e = rest e
 

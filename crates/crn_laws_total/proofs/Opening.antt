@@ -90,7 +90,8 @@ module _ (lent : Palettes) (P : Opening → Type 0) (stopped : (n bit : ℕ) →
   palette file true p reading n b k refuses long room g =
       on (run (from_bits (segment file p.offset p.size)) (reading p.count) start) _
       (bits-stop ok refl refl (segment file p.offset p.size) (reading p.count) refuses start)
-      (λ ws w e. g (filled ws b) (λ _. filled-beyond n ws b (run-all (from_bits (segment file p.offset p.size)) (Long n) (reading p.count) long start e) (room refl))
+      (λ ws w e. g (filled ws b) (λ _. filled-beyond n ws b (run-all (from_bits (segment file p.offset p.size)) (Long n) (reading p.count)
+      long start e) (room refl))
       (λ f. absurd (false≢true (sym f))))
   palette file false p reading n b k refuses long room g = g b (λ f. absurd (false≢true f)) (λ _. refl)
 
@@ -118,13 +119,16 @@ module _ (h : Header) (lent : Palettes) (room : room_for h lent ≡ true) where
 module _ (file : List ℕ) (lent : Palettes) (h : Header) where
   -- what is left to do after the tables and so many palettes
   abbrev after-four : Lengths → List ℕ → List ℕ → List ℕ → List ℕ → Opening
-  after-four t ce cs ae al = opened (record { header = h; tables = tables_of t }) (record { color_ends = ce; color_sels = cs; alpha_ends = ae; alpha_sels = al })
+  after-four t ce cs ae al = opened (record { header = h; tables = tables_of t })
+      (record { color_ends = ce; color_sels = cs; alpha_ends = ae; alpha_sels = al })
 
   abbrev after-three : Lengths → List ℕ → List ℕ → List ℕ → Opening
-  after-three t ce cs ae = palette_in file lent (present h.alpha_endpoints) h.alpha_selectors alpha_selectors lent.alpha_sels (after-four t ce cs ae)
+  after-three t ce cs ae = palette_in file lent (present h.alpha_endpoints) h.alpha_selectors alpha_selectors lent.alpha_sels
+      (after-four t ce cs ae)
 
   abbrev after_two : Lengths → List ℕ → List ℕ → Opening
-  after_two t ce cs = palette_in file lent (present h.alpha_endpoints) h.alpha_endpoints alpha_endpoints lent.alpha_ends (after-three t ce cs)
+  after_two t ce cs = palette_in file lent (present h.alpha_endpoints) h.alpha_endpoints alpha_endpoints lent.alpha_ends
+      (after-three t ce cs)
 
   abbrev after_one : Lengths → List ℕ → Opening
   after_one t ce = palette_in file lent (present h.color_endpoints) h.color_selectors color_selectors lent.color_sels (after_two t ce)

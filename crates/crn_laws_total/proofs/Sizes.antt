@@ -42,13 +42,15 @@ module _ {S : Type 0} (src : Source S) (ls : List ℕ) (ps : List Plane) (g : Gr
   through n {cs} {v} e = by (state n) refl (sym here ∙ e)
     where
       here : run src (level ls ps (insides g 0 n)) w
-          ≡ then {A = List Chunk × Running} (then (state n) (λ q v. got (chunks_to src ls ps (inside g) (fresh ps) w n, q) v)) (λ a v. run src (answer a.0) v)
+          ≡ then {A = List Chunk × Running} (then (state n) (λ q v. got (chunks_to src ls ps (inside g) (fresh ps) w n, q) v))
+          (λ a v. run src (answer a.0) v)
       here =
           run-next src (chunks ls ps (insides g 0 n) (fresh ps) []) (λ a. answer a.0) w
           ∙ ap (λ (y : Step S (List Chunk × Running)). then y (λ a v. run src (answer a.0) v)) (chunks-run src ls ps g (fresh ps) w n)
 
       by : (y : Step S Running) → state n ≡ y
-          → then {A = List Chunk × Running} (then y (λ q v. got (chunks_to src ls ps (inside g) (fresh ps) w n, q) v)) (λ a v. run src (answer a.0) v) ≡ got cs v
+          → then {A = List Chunk × Running} (then y (λ q v. got (chunks_to src ls ps (inside g) (fresh ps) w n, q) v))
+          (λ a v. run src (answer a.0) v) ≡ got cs v
           → Through n cs
       by (got q u) is e =
           let z : ◌≡◌ {A = Step S (List Chunk)} (got (chunks_to src ls ps (inside g) (fresh ps) w n) u) (got cs v) =
@@ -56,10 +58,12 @@ module _ {S : Type 0} (src : Source S) (ls : List ℕ) (ps : List Plane) (g : Gr
           let c : cs ≡ chunks_to src ls ps (inside g) (fresh ps) w n = cc in
           record { last = q; place = u; reached = is; chunks = c }
       by (refused x u) is e =
-          let z : ◌≡◌ {A = Step S (List Chunk)} (refused x u) (got cs v) = (unfold then in e) in let y : ◌≡◌ {A = ℕ} 0 1 = cc in absurd (omega arith)
+          let z : ◌≡◌ {A = Step S (List Chunk)} (refused x u) (got cs v) = (unfold then in e) in let y : ◌≡◌ {A = ℕ} 0 1 = cc in absurd
+          (omega arith)
 
   -- a chunk of the level
-  chunk-fits : {cs : List Chunk} → Through (chunk_count g) cs → (f x y : ℕ) → In g f x y → Shaped (length ps) (grid.chunk_at cs (grid.chunk_of g f x y))
+  chunk-fits : {cs : List Chunk} → Through (chunk_count g) cs → (f x y : ℕ) → In g f x y → Shaped (length ps)
+      (grid.chunk_at cs (grid.chunk_of g f x y))
   chunk-fits {cs} t f x y at =
       let below : grid.chunk_of g f x y < chunk_count g =
       chunk-below g f (x / 2) (y / 2) (record { face = at.face; column = omega (arith, at.column); row = omega (arith, at.row) }) in

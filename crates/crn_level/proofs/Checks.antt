@@ -42,11 +42,21 @@ passed true true true false e f g z = not-zero 4 (omega arith) z
 passed true true true true false f g z = not-zero 5 (omega arith) z
 passed true true true true true false g z = not-zero 11 (omega arith) z
 passed true true true true true true false z = not-zero 12 (omega arith) z
-passed true true true true true true true z = record { limits = refl; tables = refl; number = refl; stands = refl; palettes = refl; grid = refl; room = refl }
+passed true true true true true true true z = record {
+  limits = refl;
+  tables = refl;
+  number = refl;
+  stands = refl;
+  palettes = refl;
+  grid =
+      refl;
+  room = refl;
+}
 
 -- the first that fails decides
 failing : (a b c d e f g : Bool) (declines : ℕ → Unpacking) (x : Unpacking) → (first_failed a b c d e f g ≡ 0 → ⊥)
-    → pick a (pick b (pick c (pick d (pick e (pick f (pick g x (declines 12)) (declines 11)) (declines 5)) (declines 4)) (declines 10)) (declines 6)) (declines 2) ≡ declines (first_failed a b c d e f g)
+    → pick a (pick b (pick c (pick d (pick e (pick f (pick g x (declines 12)) (declines 11)) (declines 5)) (declines 4)) (declines 10))
+    (declines 6)) (declines 2) ≡ declines (first_failed a b c d e f g)
 unfolding first_failed
 failing false b c d e f g declines x z = refl
 failing true false c d e f g declines x z = refl
@@ -109,7 +119,8 @@ inside file h level e =
 
 -- ---- of a level
 
-module _ (r : Record) (file : List ℕ) (p : Palettes) (level pitch distance n : ℕ) {tables : Bool} (holds : tables ≡ tables_hold r.tables) {m : ℕ}
+module _ (r : Record) (file : List ℕ) (p : Palettes) (level pitch distance n : ℕ) {tables : Bool} (holds : tables ≡ tables_hold r.tables)
+    {m : ℕ}
     (is : m ≡ refusal_by r.header tables file p level pitch distance n) where
   found : m ≡ refusal_by r.header (tables_hold r.tables) file p level pitch distance n
   found = rw holds at is
@@ -132,13 +143,16 @@ module _ (r : Record) (file : List ℕ) (p : Palettes) (level pitch distance n :
           room = room_of r.header level pitch distance n (limited r.header all.limits) all.grid all.room;
         })
 
-module _ (r : Record) (file : List ℕ) (p : Palettes) (level pitch distance budget : ℕ) (d : List ℕ) {tables : Bool} (holds : tables ≡ tables_hold r.tables) {m : ℕ}
+module _ (r : Record) (file : List ℕ) (p : Palettes) (level pitch distance budget : ℕ) (d : List ℕ) {tables : Bool}
+    (holds : tables ≡ tables_hold r.tables) {m : ℕ}
     (is : m ≡ refusal_by r.header tables file p level pitch distance (length d)) where
   declined_so : (m ≡ 0 → ⊥) → unpacking r file p level pitch distance budget d ≡ declined m 0 0 d
   unfolding unpacking
   declined_so ne =
-      failing (within_limits r.header) (tables_hold r.tables) (ltb level r.header.levels) (level_stands file r.header level) (palettes_reach r.header p)
-      (grid_fits (grid_of r.header level pitch distance)) (leb (reach (grid_of r.header level pitch distance)) (length d)) (λ n. declined n 0 0 d)
+      failing (within_limits r.header) (tables_hold r.tables) (ltb level r.header.levels) (level_stands file r.header level)
+      (palettes_reach r.header p)
+      (grid_fits (grid_of r.header level pitch distance)) (leb (reach (grid_of r.header level pitch distance)) (length d))
+      (λ n. declined n 0 0 d)
       (drawn_level r (level_segment file r.header level) p (grid_of r.header level pitch distance) budget d)
       (λ z. ne (found r file p level pitch distance (length d) holds is ∙ z))
       ∙ ap (λ (n : ℕ). declined n 0 0 d) (sym (found r file p level pitch distance (length d) holds is))

@@ -2,7 +2,7 @@
 // (document 01, Refusal numbers).
 ghost use Rattle.std.specs.Prelude.{◌≡◌, true, ◌<◌, length};
 ghost use Rattle.crn_format.specs.Limits.{too_long};
-ghost use Rattle.crn_format.specs.Unpacking.{level_stands, level_segment, grid_of, unpacking as «unpackingOf»};
+ghost use Rattle.crn_format.specs.Unpacking.{level_stands, level_segment, grid_of, unpacking as unpacking_of};
 ghost use Rattle.crn_format.specs.declared.Tables.{Tables};
 ghost use Rattle.crn_formats.specs.Lent.{lent_of};
 ghost use Rattle.crn_formats.specs.Records.{record_by};
@@ -130,7 +130,7 @@ pub fn unpack_level_by<'a>(
     budget: &mut u64,
     dst: &mut [u8],
 ) -> Unpacked
-    ensures { Unpacks («unpackingOf» (record_by header counts chunk.now color_ends.now color_sels.now alpha_ends.now alpha_sels.now) file.now (lent_of color_endpoints.now color_selectors.now alpha_endpoints.now alpha_selectors.now) level pitch distance budget.old dst.old) budget.old budget.new dst.new result }
+    ensures { Unpacks (unpacking_of (record_by header counts chunk.now color_ends.now color_sels.now alpha_ends.now alpha_sels.now) file.now (lent_of color_endpoints.now color_selectors.now alpha_endpoints.now alpha_selectors.now) level pitch distance budget.old dst.old) budget.old budget.new dst.new result }
 {
     let tables = tables_hold(
         counts, chunk, color_ends, color_sels, alpha_ends, alpha_sels,
@@ -193,7 +193,7 @@ pub fn unpack_made(
     dst: &mut [u8],
 ) -> Unpacked
     requires { Tabled header s lookup.now sorted.now }
-    ensures { (t : Tables) → Made (record_with header t) s lookup.now sorted.now → Unpacks («unpackingOf» (record_with header t) file.now (lent_of color_endpoints.now color_selectors.now alpha_endpoints.now alpha_selectors.now) level pitch distance budget.old dst.old) budget.old budget.new dst.new result }
+    ensures { (t : Tables) → Made (record_with header t) s lookup.now sorted.now → Unpacks (unpacking_of (record_with header t) file.now (lent_of color_endpoints.now color_selectors.now alpha_endpoints.now alpha_selectors.now) level pitch distance budget.old dst.old) budget.old budget.new dst.new result }
 {
     let failed = refusal(
         header,
@@ -246,7 +246,7 @@ pub fn unpack_level(
     budget: &mut u64,
     dst: &mut [u8],
 ) -> Unpacked
-    ensures { Unpacks («unpackingOf» «record» file.now (lent_of color_endpoints.now color_selectors.now alpha_endpoints.now alpha_selectors.now) level pitch distance budget.old dst.old) budget.old budget.new dst.new result }
+    ensures { Unpacks (unpacking_of «record» file.now (lent_of color_endpoints.now color_selectors.now alpha_endpoints.now alpha_selectors.now) level pitch distance budget.old dst.old) budget.old budget.new dst.new result }
 {
     let header = record.header;
     let counts = Counts {

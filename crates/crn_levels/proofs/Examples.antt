@@ -61,7 +61,13 @@ abbrev pub small : Record
 small =
     record {
       header = header;
-      tables = record { chunk_encoding = bit; color_endpoint_delta = bit; color_selector_delta = bit; alpha_endpoint_delta = empty; alpha_selector_delta = empty };
+      tables = record {
+        chunk_encoding = bit;
+        color_endpoint_delta = bit;
+        color_selector_delta = bit;
+        alpha_endpoint_delta = empty;
+        alpha_selector_delta = empty;
+      };
     }
 
 -- colour words 0 and 1, so that each block is a cut-out
@@ -87,5 +93,9 @@ shown : (several_of small (0 ∷ 0 ∷ []) palettes 0 100 (replicate 44 7)
       left = 0;
       after = four ++ (replicate 8 0 ++ replicate 4 7);
     })
-unfolding several_from onward level_sizes spelled below used first_code longest_up_to room all_fit nth seek next then run of_drawn served from_bits charged budgeted endpoint_index selector_index endpoint_indices plane_endpoints plane_selectors position_selectors tile_counts tile_map encoding last_or lasts last_row chunk chunks level inside insides little half halves nth_list block_of chunk_at block_at row_painted face_painted painted row_cutouts face_cutouts cutouts kind_of within_limits tables_hold level_stands palettes_reach grid_of per_plane cutout_count ended drawn_level unpacking
+unfolding several_from onward level_sizes spelled below used first_code longest_up_to room all_fit nth seek next then run of_drawn served
+    from_bits charged budgeted endpoint_index selector_index endpoint_indices plane_endpoints plane_selectors position_selectors tile_counts
+    tile_map encoding last_or lasts last_row chunk chunks level inside insides little half halves nth_list block_of chunk_at block_at
+    row_painted face_painted painted row_cutouts face_cutouts cutouts kind_of within_limits tables_hold level_stands palettes_reach grid_of
+    per_plane cutout_count ended drawn_level unpacking
 shown = (refl, refl)

@@ -36,7 +36,8 @@ module _ (r : Record) (file : List ℕ) (p : Palettes) (n budget : ℕ) (dst : L
   g = grid_of r.header n z.pitch z.distance
 
   -- its bytes are there, and its cut-outs few
-  pub through : (s c : ℕ) (e : List ℕ) → unpacking r file p n z.pitch z.distance budget dst ≡ unpacked s c e → (z.bytes ≤ length dst) × (c ≤ most_cutouts)
+  pub through : (s c : ℕ) (e : List ℕ) → unpacking r file p n z.pitch z.distance budget dst ≡ unpacked s c e → (z.bytes ≤ length dst) ×
+      (c ≤ most_cutouts)
   unfolding grid_of
   through s c e h =
       let a = accepted-passed r file p n z.pitch z.distance budget dst h in
@@ -91,13 +92,16 @@ module _ (r : Record) (file : List ℕ) (p : Palettes) (f : Far) (dst : List ℕ
   unfolding several_from
   stepped e = rw (more, e, is, last)
 
-  pub on : {left s c : ℕ} {e after : List ℕ} {f' : Far} → further f z.bytes s c ≡ f' → after ≡ take f.from dst ++ e → Unpacks answer f.left left e (Blocks s c)
+  pub on : {left s c : ℕ} {e after : List ℕ} {f' : Far} → further f z.bytes s c ≡ f' → after ≡ take f.from dst ++ e → Unpacks answer f.left
+      left e (Blocks s c)
       → several_from m r file p f dst ≡ several_from n r file p f' after
   unfolding onward answer_of
   on next put o = rw (sym next, put) (stepped o.answer)
 
-  pub off : {all left k s b : ℕ} {e after : List ℕ} → f.symbols + f.left ≡ all → after ≡ take f.from dst ++ e → Unpacks answer f.left left e (Refused k s b)
-      → Gives (several_from m r file p f dst) left after (record { refusal = k; at = b; levels = f.levels; symbols = all - left; cutouts = f.cutouts })
+  pub off : {all left k s b : ℕ} {e after : List ℕ} → f.symbols + f.left ≡ all → after ≡ take f.from dst ++ e → Unpacks answer f.left left e
+      (Refused k s b)
+      → Gives (several_from m r file p f dst) left after (record
+      { refusal = k; at = b; levels = f.levels; symbols = all - left; cutouts = f.cutouts })
   unfolding onward answer_of
   off {all} {left} {k} {s} {b} whole put o =
       let drawn : all - left ≡ f.symbols + s = omega (arith, o.spent) in
@@ -110,10 +114,22 @@ module _ (r : Record) (file : List ℕ) (p : Palettes) (f : Far) (dst : List ℕ
 -- an end, of the definition from how far it has come and so from the start
 pub from_start : {x y : Ended} {left : ℕ} {after : List ℕ} {a b : Several} → x ≡ y → a ≡ b → Gives x left after b → Gives y left after a
 from_start e i g =
-    record { answer = i ∙ g.answer ∙ ap (λ (w : Ended). w.answer) e; budget = g.budget ∙ ap (λ (w : Ended). w.left) e; leaves = g.leaves ∙ ap (λ (w : Ended). w.after) e }
+    record {
+      answer = i ∙ g.answer ∙ ap (λ (w : Ended). w.answer) e;
+      budget = g.budget ∙ ap (λ (w : Ended). w.left) e;
+      leaves = g.leaves ∙
+          ap (λ (w : Ended). w.after) e;
+    }
 
 pub all-through : (r : Record) (file : List ℕ) (p : Palettes) (f : Far) (dst : List ℕ) {n : ℕ} → n ≡ 0
-    → Gives (several_from n r file p f dst) f.left dst (record { refusal = 0; at = 0; levels = f.levels; symbols = f.symbols; cutouts = f.cutouts })
+    → Gives (several_from n r file p f dst) f.left dst (record {
+      refusal = 0;
+      at = 0;
+      levels = f.levels;
+      symbols = f.symbols;
+      cutouts =
+          f.cutouts;
+    })
 unfolding several_from
 all-through r file p f dst e = rw e (record { answer = refl; budget = refl; leaves = refl })
 
@@ -123,17 +139,20 @@ module _ (r : Record) (file : List ℕ) (p : Palettes) (first budget : ℕ) (dst
   abbrev firstly : Unpacking
   firstly = unpacking r file p first (level_sizes r.header first).pitch (level_sizes r.header first).distance budget dst
 
-  none-at : (m : ℕ) → firstly ≡ declined m 0 0 dst → {a : Several} → a ≡ none_by m → Gives (several_of r file p first budget dst) budget dst a
+  none-at : (m : ℕ) → firstly ≡ declined m 0 0 dst → {a : Several} → a ≡ none_by m → Gives (several_of r file p first budget dst) budget dst
+      a
   unfolding answer_of
   none-at m e i =
       let z : 0 ≡ budget - budget = omega arith in
       from_start refl (i ∙ (λ j. record { refusal = m; at = 0; levels = 0; symbols = z j; cutouts = 0 }))
-      (off r file p (begun first budget) dst (r.header.levels - suc first) refl refl refl (omega arith) refl (record { answer = sym e; spent = omega arith }))
+      (off r file p (begun first budget) dst (r.header.levels - suc first) refl refl refl (omega arith) refl
+      (record { answer = sym e; spent = omega arith }))
 
   pub none_2 : within_limits r.header ≡ false → {a : Several} → a ≡ none_by 2 → Gives (several_of r file p first budget dst) budget dst a
   none_2 e = none-at 2 (unfold unpacking in rw e)
 
-  pub none_6 : within_limits r.header ≡ true → tables_hold r.tables ≡ false → {a : Several} → a ≡ none_by 6 → Gives (several_of r file p first budget dst) budget dst a
+  pub none_6 : within_limits r.header ≡ true → tables_hold r.tables ≡ false → {a : Several} → a ≡ none_by 6 → Gives
+      (several_of r file p first budget dst) budget dst a
   none_6 w e = none-at 6 (unfold unpacking in rw (w, e))
 
   pub none_10 : within_limits r.header ≡ true → tables_hold r.tables ≡ true → r.header.levels ≤ first → {a : Several} → a ≡ none_by 10
@@ -141,7 +160,8 @@ module _ (r : Record) (file : List ℕ) (p : Palettes) (first budget : ℕ) (dst
   none_10 w h e = none-at 10 (unfold unpacking in rw (w, h, le-ltb _ _ e))
 
   -- or it is there
-  pub some : first < r.header.levels → {left : ℕ} {after : List ℕ} {a : Several} → Gives (several_from (r.header.levels - first) r file p (begun first budget) dst) left after a
+  pub some : first < r.header.levels → {left : ℕ} {after : List ℕ} {a : Several} → Gives
+      (several_from (r.header.levels - first) r file p (begun first budget) dst) left after a
       → Gives (several_of r file p first budget dst) left after a
   some h g =
       let e : r.header.levels - first ≡ suc (r.header.levels - suc first) = omega arith in

@@ -37,7 +37,8 @@ module _ {o : Opening} {after : Palettes} where
   is-opened e = record { answer = ap to_opened (sym e); leaves = ap buffers_of (sym e) }
 
 -- a refusal by its parts
-pub closed_by : {n bit : ℕ} {r : OpenedHeader} {a b c d e : List ℕ} → r ≡ refused_header n bit → AllZero a b c d e → opened_by r a b c d e ≡ closed n bit
+pub closed_by : {n bit : ℕ} {r : OpenedHeader} {a b c d e : List ℕ} → r ≡ refused_header n bit → AllZero a b c d e → opened_by r a b c d e ≡
+    closed n bit
 unfolding tables_of
 closed_by is none = rw (is, none.first, none.color_e, none.color_s, none.alpha_e, none.alpha_s)
 
@@ -51,9 +52,11 @@ module _ (file : List ℕ) (h : Header) (lent : Palettes) {sent : Told}
 
   module _ (z : sent.refusal ≡ 0) {after : Palettes} {ended : Ended} (p : PalettesEnd file h lent after ended) where
     -- the buffers that the palettes left are cleared
-    pub shut_by_palettes : (ended.refusal ≡ 0 → ⊥) → {left : Palettes} → left ≡ zeroed after → length left.color_ends ≡ length lent.color_ends
+    pub shut_by_palettes : (ended.refusal ≡ 0 → ⊥) → {left : Palettes} → left ≡ zeroed after → length left.color_ends ≡ length
+        lent.color_ends
         → length left.color_sels ≡ length lent.color_sels → length left.alpha_ends ≡ length lent.alpha_ends
-        → length left.alpha_sels ≡ length lent.alpha_sels → {r : Opened} → r ≡ closed ended.refusal ended.at → Opens (streams file lent h) left r
+        → length left.alpha_sels ≡ length lent.alpha_sels → {r : Opened} → r ≡ closed ended.refusal ended.at → Opens (streams file lent h)
+        left r
     shut_by_palettes y l h₁ h₂ h₃ h₄ a =
         is-shut (tables-read file lent h e z ∙ p.same _ ∙ off lent ended _ y) (cleared after lent l h₁ h₂ h₃ h₄) a
 
@@ -65,7 +68,12 @@ module _ (file : List ℕ) (h : Header) (lent : Palettes) {sent : Told}
 module _ (file : List ℕ) (h : Header) (lent : Palettes) (sent : Sent) (a b c d f : List ℕ)
     (e : told sent a b c d f ≡ sent_of (run (from_bits (segment file h.tables_offset h.tables_size)) (sent_tables h) start)) where
   pub streams-told : sent.refusal ≡ 0 → {after : Palettes} {ended : Ended} → PalettesEnd file h lent after ended → ended.refusal ≡ 0
-      → Opens (streams file lent h) after (record { refusal = 0; at = 0; file = record { header = h; tables = tables_by sent.counts a b c d f } })
+      → Opens (streams file lent h) after (record {
+        refusal = 0;
+        at = 0;
+        file = record
+            { header = h; tables = tables_by sent.counts a b c d f };
+      })
   streams-told z p y = rw (eq-eqb sent.refusal 0 z) at (streams-read file h lent e z p y)
 
 -- ---- the checks from 4 on, and then the streams

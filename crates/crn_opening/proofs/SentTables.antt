@@ -25,7 +25,8 @@ use Rattle.crn_opening.specs.declared.tables_segment.Sent.{Sent}
 
 -- ---- one part, and what comes after it
 
-module _ {A B : Type 0} {seg : List ℕ} {m : Reading A} {c : Cursor} {k at : ℕ} {d : Cursor} {a : A} (e : Ends seg m c k at d a) (f : A → Reading B) (b : ℕ) where
+module _ {A B : Type 0} {seg : List ℕ} {m : Reading A} {c : Cursor} {k at : ℕ} {d : Cursor} {a : A} (e : Ends seg m c k at d a)
+    (f : A → Reading B) (b : ℕ) where
   pub on : k ≡ 0 → run (from_bits seg) (next m f) (spot (place c) b) ≡ run (from_bits seg) (f a) (spot (place d) (e.blamed b))
   on z = go_on (from_bits seg) m f (spot (place c) b) (e.goes z b)
 
@@ -38,14 +39,16 @@ module _ {seg : List ℕ} {c : Cursor} {r : Received} {ls : List ℕ} (e : Recei
   received =
       record {
         blamed = λ b. e.blamed;
-        goes = λ z b. e.same b ∙ said-got _ _ _ _ z ∙ ap (λ (p : ℕ). got (lengths_of (table_by r.count ls)) (spot p e.blamed)) (sym (e.goes z).1);
+        goes = λ z b. e.same b ∙ said-got _ _ _ _ z ∙ ap (λ (p : ℕ). got (lengths_of (table_by r.count ls)) (spot p e.blamed))
+            (sym (e.goes z).1);
         holds = λ z. (e.goes z).0;
         stops = λ z b. e.same b ∙ said-refused _ _ _ _ z;
       }
 
 -- ---- a plane's two tables
 
-pub absent : {seg : List ℕ} {c : Cursor} {ends sels : List ℕ} → Holds seg c → ends ≡ replicate max_symbols 0 → sels ≡ replicate max_symbols 0
+pub absent : {seg : List ℕ} {c : Cursor} {ends sels : List ℕ} → Holds seg c → ends ≡ replicate max_symbols 0 → sels ≡ replicate max_symbols
+    0
     → Pairs seg false c (record { refusal = 0; at = 0; cursor = c; endpoints = 0; selectors = 0 }) ends sels
 unfolding plane_tables
 absent {seg} {c} h e s =
@@ -89,7 +92,8 @@ module _ {seg : List ℕ} {c : Cursor} {r : Received} {ends : List ℕ} (e : Rec
 -- ---- the whole segment
 
 -- a refusal, whatever was received before it
-pub told-refused : {k at : ℕ} {o : Step Place Lengths} → (k ≡ 0 → ⊥) → o ≡ refused k (spot at at) → {r : Sent} → r ≡ unsent k at → (a b c d e : List ℕ)
+pub told-refused : {k at : ℕ} {o : Step Place Lengths} → (k ≡ 0 → ⊥) → o ≡ refused k (spot at at) → {r : Sent} → r ≡ unsent k at →
+    (a b c d e : List ℕ)
     → told r a b c d e ≡ sent_of o
 told-refused z o u a b c d e = rw (u, o, ne_eqb _ _ z)
 
@@ -106,34 +110,37 @@ module _ {seg : List ℕ} (h : Header) {c : Cursor} (first : place c ≡ 0) {chu
   unfolding sent_tables sent
   chunk-refused z = from_first ∙ off (received e) _ 0 z
 
-  module _ (z : chunk.refusal ≡ 0) {color : Pair} {ce cs : List ℕ} (p : Pairs seg (present h.color_endpoints) chunk.cursor color ce cs) where
-    pub color-refused : (color.refusal ≡ 0 → ⊥) → run (from_bits seg) (sent_tables h) start ≡ refused color.refusal (spot color.at color.at)
-    unfolding sent_tables sent
-    color-refused y = from_first ∙ on (received e) _ 0 z ∙ off p.reads _ _ y
-
-    module _ (y : color.refusal ≡ 0) {alpha : Pair} {ae al : List ℕ} (q : Pairs seg (present h.alpha_endpoints) color.cursor alpha ae al) where
-      pub alpha-refused : (alpha.refusal ≡ 0 → ⊥) → run (from_bits seg) (sent_tables h) start ≡ refused alpha.refusal (spot alpha.at alpha.at)
+  module _ (z : chunk.refusal ≡ 0) {color : Pair} {ce cs : List ℕ} (p : Pairs seg (present h.color_endpoints) chunk.cursor color ce cs)
+    where
+      pub color-refused : (color.refusal ≡ 0 → ⊥) → run (from_bits seg) (sent_tables h) start ≡ refused color.refusal (spot color.at color.at)
       unfolding sent_tables sent
-      alpha-refused x = from_first ∙ on (received e) _ 0 z ∙ on p.reads _ _ y ∙ off q.reads _ _ x
+      color-refused y = from_first ∙ on (received e) _ 0 z ∙ off p.reads _ _ y
 
-      pub all-sent : alpha.refusal ≡ 0
-          → told (record {
-            refusal = 0;
-            at = 0;
-            counts = record {
-              chunk = chunk.count;
-              color_ends = color.endpoints;
-              color_sels = color.selectors;
-              alpha_ends = alpha.endpoints;
-              alpha_sels = alpha.selectors;
-            };
-          }) a ce cs ae al ≡ sent_of (run (from_bits seg) (sent_tables h) start)
-      unfolding sent_tables sent tables_of
-      all-sent x =
-          let ran = from_first ∙ on (received e) _ 0 z ∙ on p.reads _ _ y ∙ on q.reads _ _ x ∙ answered (from_bits seg) _ _ in
-          let f = e.whole in
-          let g = p.endpoints y in
-          let i = p.selectors y in
-          let j = q.endpoints x in
-          let k = q.selectors x in
-          rw ran cc
+      module _ (y : color.refusal ≡ 0) {alpha : Pair} {ae al : List ℕ} (q : Pairs seg (present h.alpha_endpoints) color.cursor alpha ae al)
+        where
+          pub alpha-refused : (alpha.refusal ≡ 0 → ⊥) → run (from_bits seg) (sent_tables h) start ≡ refused alpha.refusal
+              (spot alpha.at alpha.at)
+          unfolding sent_tables sent
+          alpha-refused x = from_first ∙ on (received e) _ 0 z ∙ on p.reads _ _ y ∙ off q.reads _ _ x
+
+          pub all-sent : alpha.refusal ≡ 0
+              → told (record {
+                refusal = 0;
+                at = 0;
+                counts = record {
+                  chunk = chunk.count;
+                  color_ends = color.endpoints;
+                  color_sels = color.selectors;
+                  alpha_ends = alpha.endpoints;
+                  alpha_sels = alpha.selectors;
+                };
+              }) a ce cs ae al ≡ sent_of (run (from_bits seg) (sent_tables h) start)
+          unfolding sent_tables sent tables_of
+          all-sent x =
+              let ran = from_first ∙ on (received e) _ 0 z ∙ on p.reads _ _ y ∙ on q.reads _ _ x ∙ answered (from_bits seg) _ _ in
+              let f = e.whole in
+              let g = p.endpoints y in
+              let i = p.selectors y in
+              let j = q.endpoints x in
+              let k = q.selectors x in
+              rw ran cc

@@ -26,7 +26,8 @@ unfolding zeroed
 all-zero b₁ b₂ b₃ b₄ e₁ e₂ e₃ e₄ = cc
 
 -- the four buffers, cleared after they were written: their lengths stayed the same
-pub cleared : (a b : Palettes) {w : Palettes} → w ≡ zeroed a → length w.color_ends ≡ length b.color_ends → length w.color_sels ≡ length b.color_sels
+pub cleared : (a b : Palettes) {w : Palettes} → w ≡ zeroed a → length w.color_ends ≡ length b.color_ends → length w.color_sels ≡ length
+    b.color_sels
     → length w.alpha_ends ≡ length b.alpha_ends → length w.alpha_sels ≡ length b.alpha_sels → w ≡ zeroed b
 unfolding zeroed
 cleared a b {w} e h₁ h₂ h₃ h₄ =
@@ -66,7 +67,8 @@ module _ {seg : List ℕ} {m : Reading (List ℕ)} {before after : List ℕ} {r 
       by (refused n w) s e h = rw e (simp (ne_eqb n 0 (λ z. omega arith)))
 
 -- where its plane is present
-palette : (file : List ℕ) (p : Part) (m : ℕ → Reading (List ℕ)) {b a : List ℕ} {r : Ended} → Fills (segment file p.offset p.size) (m p.count) b a r
+palette : (file : List ℕ) (p : Part) (m : ℕ → Reading (List ℕ)) {b a : List ℕ} {r : Ended} → Fills (segment file p.offset p.size)
+    (m p.count) b a r
     → Numbered (m p.count) → (there : Bool) → there ≡ true → (lent : Palettes) (k : List ℕ → Opening)
     → palette_in file lent there p m b k ≡ settled lent r (k a)
 unfolding palette_in
@@ -94,12 +96,16 @@ module _ (file : List ℕ) (ends sels : Part) (m₁ m₂ : ℕ → Reading (List
 
     pub plane_goes-on : (r₁.refusal ≡ 0) → {a₂ : List ℕ} {r₂ : Ended} → Numbered (m₂ sels.count)
         → Fills (segment file sels.offset sels.size) (m₂ sels.count) b₂ a₂ r₂ → PlaneEnds file ends sels m₁ m₂ b₁ b₂ a₁ a₂ r₂
-    plane_goes-on z n₂ f₂ = record { same = λ lent k. first lent _ ∙ on lent r₁ _ z ∙ palette file sels m₂ f₂ n₂ (present ends) some lent (k a₁) }
+    plane_goes-on z n₂ f₂ = record {
+      same = λ lent k. first lent _ ∙ on lent r₁ _ z ∙ palette file sels m₂ f₂ n₂ (present ends) some lent
+          (k a₁);
+    }
 
 -- ---- the four palettes
 
 module _ (file : List ℕ) (h : Header) (b₁ b₂ b₃ b₄ : List ℕ) where
-  module _ {a₁ a₂ : List ℕ} {r : Ended} (p : PlaneEnds file h.color_endpoints h.color_selectors color_endpoints color_selectors b₁ b₂ a₁ a₂ r) where
+  module _ {a₁ a₂ : List ℕ} {r : Ended} (p : PlaneEnds file h.color_endpoints h.color_selectors color_endpoints color_selectors b₁ b₂ a₁ a₂
+      r) where
     pub color-stops : (r.refusal ≡ 0 → ⊥) → {a₃ a₄ : List ℕ} → PalettesEnd file h (lent_of b₁ b₂ b₃ b₄) (lent_of a₁ a₂ a₃ a₄) r
     unfolding palettes_in
     color-stops z = record { same = λ k. p.same _ _ ∙ off _ r _ z ∙ sym (off _ r _ z) }

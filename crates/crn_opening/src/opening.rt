@@ -1,7 +1,7 @@
 // Opening a file, in one call or by a look's record: the header, the segments and the lent buffers, then the streams (document 01, Refusal
 // numbers; document 02, request 2).
 ghost use Rattle.std.specs.Prelude.{◌≡◌};
-ghost use Rattle.crn_format.specs.Opening.{streams, after_look, opening as «openingOf», zeroed};
+ghost use Rattle.crn_format.specs.Opening.{streams, after_look, opening as opening_of, zeroed};
 ghost use Rattle.crn_formats.specs.Lent.{lent_of};
 ghost use Rattle.crn_opening.specs.SentTables.{AllZero};
 ghost use Rattle.crn_opening.specs.Streams.{Seen, Passed};
@@ -212,7 +212,7 @@ pub fn open_into(
     alpha_ends: &mut [u8; 8192],
     alpha_sels: &mut [u8; 8192],
 ) -> OpenedHeader
-    ensures { Opens («openingOf» file.now
+    ensures { Opens (opening_of file.now
         (lent_of color_endpoints.old color_selectors.old
         alpha_endpoints.old alpha_selectors.old))
         (lent_of color_endpoints.new color_selectors.new

@@ -2,7 +2,7 @@
 // (document 01, Codes). After a refusal the buffers are to be cleared.
 ghost use Rattle.std.specs.Prelude.{◌≡◌, ◌+◌, ◌≤◌, length};
 ghost use Rattle.crn_format.specs.Palettes.{color_endpoints, color_selectors, alpha_endpoints, alpha_selectors};
-ghost use Rattle.crn_format.specs.Opening.{segment as «segmentOf»};
+ghost use Rattle.crn_format.specs.Opening.{segment as segment_of};
 ghost use Rattle.crn_formats.specs.Lent.{lent_of};
 ghost use Rattle.crn_opening.specs.Streams.{Passed, PlaneFits, PlaneEnds, PalettesEnd};
 
@@ -14,7 +14,7 @@ use crn_selectors::{alpha_selectors, color_selectors};
 // The bytes of a part of the file.
 pub fn segment(file: &[u8], offset: u32, size: u32) -> &[u8]
     requires { offset + size ≤ length file.now }
-    ensures { (result.now ≡ «segmentOf» file.now offset size) × (length result.now ≤ length file.now) }
+    ensures { (result.now ≡ segment_of file.now offset size) × (length result.now ≤ length file.now) }
 {
     let start = offset as usize;
     let end = start + size as usize;

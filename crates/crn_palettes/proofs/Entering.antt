@@ -33,7 +33,8 @@ module _ (out : List ℕ) (k : ℕ) (ws : List ℕ) (h : k + length ws ≤ lengt
   pasted = sets-eq ws out k h ∙ ap (λ (l : List ℕ). take k out ++ l ++ drop (k + length ws) out) (sym (take-length ws))
 
   pub front-more : take (k + length ws) (sets out k ws) ≡ take k out ++ ws
-  front-more = ap (take (k + length ws)) pasted ∙ take-paste out k ws (length ws) (omega arith) (omega arith) ∙ ap (λ (l : List ℕ). take k out ++ l) (take-length ws)
+  front-more = ap (take (k + length ws)) pasted ∙ take-paste out k ws (length ws) (omega arith) (omega arith) ∙ ap
+      (λ (l : List ℕ). take k out ++ l) (take-length ws)
 
   back_same : drop (k + length ws) (sets out k ws) ≡ drop (k + length ws) out
   back_same = ap (drop (k + length ws)) pasted ∙ drop-paste out k ws (length ws) (omega arith) (omega arith)
@@ -50,15 +51,18 @@ module _ (out : List ℕ) (k : ℕ) (ws : List ℕ) (h : k + length ws ≤ lengt
 -- ---- the run
 
 -- at the cursor `at`, after i of the n entries, which took k words, with the running values vs
-pub record Entered (seg : List ℕ) (turn : List ℕ → Reading (List ℕ)) (words : List ℕ → List ℕ) (n i k : ℕ) (vs out : List ℕ) (at : Cursor) (whole : Step Place (List ℕ)) : Type 0 where
+pub record Entered (seg : List ℕ) (turn : List ℕ → Reading (List ℕ)) (words : List ℕ → List ℕ) (n i k : ℕ) (vs out : List ℕ) (at : Cursor)
+    (whole : Step Place (List ℕ)) : Type 0 where
   pub left : Left seg (entries turn words (n - i) vs (take k out)) at whole
 
 -- before the first entry
-pub entries_none : (seg : List ℕ) (turn : List ℕ → Reading (List ℕ)) (words : List ℕ → List ℕ) (n : ℕ) (vs out : List ℕ) (c : Cursor) (b : ℕ)
+pub entries_none : (seg : List ℕ) (turn : List ℕ → Reading (List ℕ)) (words : List ℕ → List ℕ) (n : ℕ) (vs out : List ℕ) (c : Cursor)
+    (b : ℕ)
     → Entered seg turn words n 0 0 vs out c (run (from_bits seg) (entries turn words n vs []) (spot (place c) b))
 entries_none seg turn words n vs out c b = record { left = record { blamed = b; same = rw sub-zero } }
 
-module _ {seg : List ℕ} {turn : List ℕ → Reading (List ℕ)} {words : List ℕ → List ℕ} {n i k : ℕ} {vs out : List ℕ} {at : Cursor} {whole : Step Place (List ℕ)} (x : Entered seg turn words n i k vs out at whole) where
+module _ {seg : List ℕ} {turn : List ℕ → Reading (List ℕ)} {words : List ℕ → List ℕ} {n i k : ℕ} {vs out : List ℕ} {at : Cursor}
+    {whole : Step Place (List ℕ)} (x : Entered seg turn words n i k vs out at whole) where
   -- the next entry is read first
   entry_first : i < n → Left seg (next (turn vs) λ now. entries turn words (n - (i + 1)) now (take k out ++ words now)) at whole
   unfolding entries
@@ -68,11 +72,13 @@ module _ {seg : List ℕ} {turn : List ℕ → Reading (List ℕ)} {words : List
 
   module _ (h : i < n) {now : List ℕ} {r : Reached} (t : (b : ℕ) → Reaches seg (turn vs) at b now r) where
     -- an entry, whose words ws are put into the buffer
-    pub entry_more : {d : Cursor} {ws : List ℕ} → r ≡ To d → words now ≡ ws → k + length ws ≤ length out → Entered seg turn words n (i + 1) (k + length ws) now (sets out k ws) d whole
+    pub entry_more : {d : Cursor} {ws : List ℕ} → r ≡ To d → words now ≡ ws → k + length ws ≤ length out → Entered seg turn words n (i + 1)
+        (k + length ws) now (sets out k ws) d whole
     entry_more {d} {ws} e f g =
         record {
           left =
-              left_is (ap (λ (l : List ℕ). entries turn words (n - (i + 1)) now l) (ap (λ (l : List ℕ). take k out ++ l) f ∙ sym (front-more out k ws g)))
+              left_is (ap (λ (l : List ℕ). entries turn words (n - (i + 1)) now l)
+              (ap (λ (l : List ℕ). take k out ++ l) f ∙ sym (front-more out k ws g)))
               (left-next _ (entry_first h) t e);
         }
 
@@ -88,7 +94,8 @@ module _ {seg : List ℕ} {turn : List ℕ → Reading (List ℕ)} {words : List
 -- ---- how a palette ends
 
 module _ {seg : List ℕ} {m : Reading (List ℕ)} {before : List ℕ} where
-  pub fills_all : {out : List ℕ} {k : ℕ} {at : Cursor} {whole : Step Place (List ℕ)} → run (from_bits seg) m start ≡ whole → Left seg (answer (take k out)) at whole → Written before k out
+  pub fills_all : {out : List ℕ} {k : ℕ} {at : Cursor} {whole : Step Place (List ℕ)} → run (from_bits seg) m start ≡ whole → Left seg
+      (answer (take k out)) at whole → Written before k out
       → Fills seg m before out (record { refusal = 0; at = 0 })
   fills_all {out} {k} q l w =
       let e = q ∙ left-answer l in
@@ -101,28 +108,35 @@ module _ {seg : List ℕ} {m : Reading (List ℕ)} {before : List ℕ} where
             ∙ take-append-drop k out);
       }
 
-  pub fills_none : (out : List ℕ) {n p : ℕ} {after : List ℕ} → run (from_bits seg) m start ≡ refused n (spot p p) → length out ≡ length before → after ≡ zeros out
+  pub fills_none : (out : List ℕ) {n p : ℕ} {after : List ℕ} → run (from_bits seg) m start ≡ refused n (spot p p) → length out ≡ length
+      before → after ≡ zeros out
       → Fills seg m before after (record { refusal = n; at = p })
   fills_none out e l z = record { answer = sym (ap answered e); holds = z ∙ ap (λ (j : ℕ). replicate j 0) l ∙ sym (ap (held before) e) }
 
 -- ---- the loop over the entries, whatever the codes t of the palette are that its decoder tables are known to have
 
 -- at the cursor `at`, after i of the n entries that are read from c on, which took k words
-pub record Filling {T : Type 0} (Known : T → Type 0) (seg : List ℕ) (turn : T → List ℕ → Reading (List ℕ)) (words : List ℕ → List ℕ) (n : ℕ) (before first : List ℕ) (c : Cursor) (i k : ℕ) (out vs : List ℕ) (at : Cursor) : Type 0 where
+pub record Filling {T : Type 0} (Known : T → Type 0) (seg : List ℕ) (turn : T → List ℕ → Reading (List ℕ)) (words : List ℕ → List ℕ) (n : ℕ)
+    (before first : List ℕ) (c : Cursor) (i k : ℕ) (out vs : List ℕ) (at : Cursor) : Type 0 where
   pub holds : Holds seg at
   pub within : i ≤ n
   pub written : Written before k out
-  pub entered : (t : T) → Known t → (b : ℕ) → Entered seg (turn t) words n i k vs out at (run (from_bits seg) (entries (turn t) words n first []) (spot (place c) b))
+  pub entered : (t : T) → Known t → (b : ℕ) → Entered seg (turn t) words n i k vs out at
+      (run (from_bits seg) (entries (turn t) words n first []) (spot (place c) b))
 
-pub filling_none : {T : Type 0} (Known : T → Type 0) (seg : List ℕ) (turn : T → List ℕ → Reading (List ℕ)) (words : List ℕ → List ℕ) (n : ℕ) (out vs : List ℕ) (c : Cursor) → Holds seg c
+pub filling_none : {T : Type 0} (Known : T → Type 0) (seg : List ℕ) (turn : T → List ℕ → Reading (List ℕ)) (words : List ℕ → List ℕ) (n : ℕ)
+    (out vs : List ℕ) (c : Cursor) → Holds seg c
     → Filling Known seg turn words n out vs c 0 0 out vs c
 filling_none Known seg turn words n out vs c h =
     record { holds = h; within = omega arith; written = written_none out; entered = λ t q b. entries_none seg (turn t) words n vs out c b }
 
-module _ {T : Type 0} {Known : T → Type 0} {seg : List ℕ} {turn : T → List ℕ → Reading (List ℕ)} {words : List ℕ → List ℕ} {n : ℕ} {before first : List ℕ} {c : Cursor} {i k : ℕ} {out vs : List ℕ} {at : Cursor} (x : Filling Known seg turn words n before first c i k out vs at) where
+module _ {T : Type 0} {Known : T → Type 0} {seg : List ℕ} {turn : T → List ℕ → Reading (List ℕ)} {words : List ℕ → List ℕ} {n : ℕ}
+    {before first : List ℕ} {c : Cursor} {i k : ℕ} {out vs : List ℕ} {at : Cursor}
+    (x : Filling Known seg turn words n before first c i k out vs at) where
   module _ (h : i < n) {now : List ℕ} {r : Reached} (turns : (t : T) → Known t → (b : ℕ) → Reaches seg (turn t vs) at b now r) where
     -- an entry, whose words ws are put into the buffer
-    pub filling_more : {d : Cursor} {ws after : List ℕ} {t : T} → Known t → r ≡ To d → words now ≡ ws → k + length ws ≤ length out → after ≡ sets out k ws
+    pub filling_more : {d : Cursor} {ws after : List ℕ} {t : T} → Known t → r ≡ To d → words now ≡ ws → k + length ws ≤ length out → after ≡
+        sets out k ws
         → Filling Known seg turn words n before first c (i + 1) (k + length ws) after now d
     filling_more {d} {ws} {after} {t} q e f g z =
         rw z
@@ -134,8 +148,10 @@ module _ {T : Type 0} {Known : T → Type 0} {seg : List ℕ} {turn : T → List
         })
 
     -- an entry that is refused, where the buffer is then cleared
-    pub filling_refused : {y p : ℕ} {after : List ℕ} → r ≡ Refused y p → after ≡ zeros out → (t : T) → Known t → FillsFrom seg c (entries (turn t) words n first []) before after (record { refusal = y; at = p })
+    pub filling_refused : {y p : ℕ} {after : List ℕ} → r ≡ Refused y p → after ≡ zeros out → (t : T) → Known t → FillsFrom seg c
+        (entries (turn t) words n first []) before after (record { refusal = y; at = p })
     filling_refused e z t q m b s = fills_none out (s ∙ entry-refused (x.entered t q b) h (turns t q) e) x.written.long z
 
-  pub filling_done : n ≤ i → (t : T) → Known t → FillsFrom seg c (entries (turn t) words n first []) before out (record { refusal = 0; at = 0 })
+  pub filling_done : n ≤ i → (t : T) → Known t → FillsFrom seg c (entries (turn t) words n first []) before out
+      (record { refusal = 0; at = 0 })
   filling_done h t q m b s = fills_all s (entries_done (x.entered t q b) h) x.written

@@ -24,7 +24,8 @@ Within : ℕ → List ℕ → Type 0
 Within count ls = length ls ≤ count
 
 -- no run goes past the count
-lengths-within : (cl : List ℕ) (count turns last : ℕ) (ls : List ℕ) → length ls ≤ count → All (Within count) (lengths_from cl count turns last ls)
+lengths-within : (cl : List ℕ) (count turns last : ℕ) (ls : List ℕ) → length ls ≤ count → All (Within count)
+    (lengths_from cl count turns last ls)
 unfolding All lengths_from Within
 lengths-within cl count zero last ls h = h
 lengths-within cl count (suc turns) last ls h =
@@ -48,7 +49,8 @@ unfolding coded Within
 coded_fit count n h =
     all-next Any Fit (sent_lengths n length_order (replicate 21 0)) _ (all_any _)
     (λ cl _. all-next Any Fit (checked cl) _ (all_any _)
-    (λ _ _. all-next (Within count) Fit (lengths_from cl count count 0 []) checked (lengths-within cl count count 0 [] (omega arith)) (λ ls k. checked_fit ls (omega arith))))
+    (λ _ _. all-next (Within count) Fit (lengths_from cl count count 0 []) checked (lengths-within cl count count 0 [] (omega arith))
+    (λ ls k. checked_fit ls (omega arith))))
 
 counted_fit : (count : ℕ) → count ≤ max_symbols → All Fit (counted count)
 unfolding All counted

@@ -22,7 +22,11 @@ pub record Left (seg : List ℕ) (rest : Reading (List ℕ)) (at : Cursor) (whol
 
 module _ {seg : List ℕ} {at : Cursor} {whole : Step Place (List ℕ)} where
   pub left_is : {m n : Reading (List ℕ)} → m ≡ n → Left seg m at whole → Left seg n at whole
-  left_is e l = record { blamed = l.blamed; same = ap (λ (m : Reading (List ℕ)). run (from_bits seg) m (spot (place at) l.blamed)) (sym e) ∙ l.same }
+  left_is e l = record {
+    blamed = l.blamed;
+    same = ap (λ (m : Reading (List ℕ)). run (from_bits seg) m (spot (place at) l.blamed)) (sym e) ∙
+        l.same;
+  }
 
   -- where the rest notes its place, that is what is blamed
   pub at_noted : {m : Reading (List ℕ)} → Left seg (mark m) at whole → run (from_bits seg) m (spot (place at) (place at)) ≡ whole
@@ -43,7 +47,8 @@ module _ {seg : List ℕ} {at : Cursor} {whole : Step Place (List ℕ)} where
     left-failed e = sym l.same ∙ taken-failed t f l.blamed e
 
   -- ---- where the rest is a reading and then another
-  module _ {m : Reading (List ℕ)} (k : List ℕ → Reading (List ℕ)) (l : Left seg (next m k) at whole) {vs : List ℕ} {r : Reached} (t : (b : ℕ) → Reaches seg m at b vs r) where
+  module _ {m : Reading (List ℕ)} (k : List ℕ → Reading (List ℕ)) (l : Left seg (next m k) at whole) {vs : List ℕ} {r : Reached}
+      (t : (b : ℕ) → Reaches seg m at b vs r) where
     pub left-next : {d : Cursor} → r ≡ To d → Left seg (k vs) d whole
     left-next {d} e =
         let x = t l.blamed in
@@ -59,14 +64,22 @@ ended_some zero d h = absurd (omega arith)
 ended_some (suc n) d h = refl
 
 module _ {seg : List ℕ} {m : Reading (List ℕ)} {c : Cursor} {b : ℕ} where
-  pub reaches_to : {vs : List ℕ} {d : Cursor} → Left seg (answer vs) d (run (from_bits seg) m (spot (place c) b)) → Holds seg d → Reaches seg m c b vs (To d)
+  pub reaches_to : {vs : List ℕ} {d : Cursor} → Left seg (answer vs) d (run (from_bits seg) m (spot (place c) b)) → Holds seg d → Reaches
+      seg m c b vs (To d)
   reaches_to l h = record { blamed = l.blamed; same = left-answer l; holds = h }
 
-  pub reaches-refused : {vs : List ℕ} {n k p q : ℕ} → run (from_bits seg) m (spot (place c) b) ≡ refused n (spot p p) → k ≡ n → q ≡ p → Reaches seg m c b vs (Refused k q)
-  reaches-refused {n = n} {q = q} e f g = record { blamed = 0; same = e ∙ sym (ap (λ (p : ℕ). refused n (spot p p)) g) ∙ sym (ap (λ (k : ℕ). refused k (spot q q)) f); holds = tt }
+  pub reaches-refused : {vs : List ℕ} {n k p q : ℕ} → run (from_bits seg) m (spot (place c) b) ≡ refused n (spot p p) → k ≡ n → q ≡ p →
+      Reaches seg m c b vs (Refused k q)
+  reaches-refused {n = n} {q = q} e f g = record {
+    blamed = 0;
+    same = e ∙ sym (ap (λ (p : ℕ). refused n (spot p p)) g) ∙ sym
+        (ap (λ (k : ℕ). refused k (spot q q)) f);
+    holds = tt;
+  }
 
   -- the same by a refusal that is not 0
-  pub reaches-ended : {vs : List ℕ} {n k : ℕ} (d : Cursor) → run (from_bits seg) m (spot (place c) b) ≡ refused n (spot (place d) (place d)) → k ≡ n → 0 < n → Reaches seg m c b vs (ended_at k d)
+  pub reaches-ended : {vs : List ℕ} {n k : ℕ} (d : Cursor) → run (from_bits seg) m (spot (place c) b) ≡ refused n (spot (place d) (place d))
+      → k ≡ n → 0 < n → Reaches seg m c b vs (ended_at k d)
   reaches-ended {n = n} d e f h = rw (f, ended_some n d h) (reaches-refused e refl refl)
 
 -- the next cursor holds

@@ -28,7 +28,8 @@ pub all_left : (seg : List ℕ) (m : Reading (List ℕ)) (c : Cursor) → place 
 all_left seg m c e = record { blamed = 0; same = ap (λ (p : ℕ). run (from_bits seg) m (spot p 0)) e }
 
 -- what is left fills the buffer, so the palette does
-pub fills_left : {seg : List ℕ} {m rest : Reading (List ℕ)} {d : Cursor} {before after : List ℕ} {r : Ended} → FillsFrom seg d rest before after r → Left seg rest d (run (from_bits seg) m start)
+pub fills_left : {seg : List ℕ} {m rest : Reading (List ℕ)} {d : Cursor} {before after : List ℕ} {r : Ended} → FillsFrom seg d rest before
+    after r → Left seg rest d (run (from_bits seg) m start)
     → Fills seg m before after r
 fills_left {m = m} f l = f m l.blamed (sym l.same)
 
@@ -40,10 +41,12 @@ module _ {seg : List ℕ} {c : Cursor} {lent : List ℕ} {r : Sent} (x : Lengths
   pub table-holds : {n : ℕ} {d : Cursor} → r ≡ Table n d → Holds seg d
   table-holds e = next-holds (Holds seg) (x.reads 0).holds (ap reached_by e)
 
-  pub table-left : {n : ℕ} {d : Cursor} → r ≡ Table n d → (k : List ℕ → Reading (List ℕ)) {whole : Step Place (List ℕ)} → Left seg (next table k) c whole → Left seg (k x.lengths) d whole
+  pub table-left : {n : ℕ} {d : Cursor} → r ≡ Table n d → (k : List ℕ → Reading (List ℕ)) {whole : Step Place (List ℕ)} → Left seg
+      (next table k) c whole → Left seg (k x.lengths) d whole
   table-left e k l = left-next k l x.reads (ap reached_by e)
 
-  pub table_decoder : {n : ℕ} {d : Cursor} → r ≡ Table n d → {lookup sorted : List ℕ} → Decodes (take n lent) lookup sorted → Received seg c lookup sorted (To d)
+  pub table_decoder : {n : ℕ} {d : Cursor} → r ≡ Table n d → {lookup sorted : List ℕ} → Decodes (take n lent) lookup sorted → Received seg c
+      lookup sorted (To d)
   table_decoder e {lookup} {sorted} k =
       record {
         lengths = x.lengths;
@@ -53,7 +56,12 @@ module _ {seg : List ℕ} {c : Cursor} {lent : List ℕ} {r : Sent} (x : Lengths
 
   pub no_table : {n p : ℕ} → r ≡ Declined n p → (lookup sorted : List ℕ) → Received seg c lookup sorted (Refused n p)
   no_table e lookup sorted =
-      record { lengths = x.lengths; reads = λ b. subst (λ (y : Sent). Reaches seg table c b x.lengths (reached_by y)) e (x.reads b); decodes = tt }
+      record {
+        lengths = x.lengths;
+        reads = λ b. subst (λ (y : Sent). Reaches seg table c b x.lengths (reached_by y)) e (x.reads b);
+        decodes
+            = tt;
+      }
 
 module _ {seg : List ℕ} {c : Cursor} {lookup sorted : List ℕ} {r : Reached} (x : Received seg c lookup sorted r) where
   module _ {d : Cursor} (e : r ≡ To d) where
@@ -66,11 +74,13 @@ module _ {seg : List ℕ} {c : Cursor} {lookup sorted : List ℕ} {r : Reached} 
     pub received_some : SomeCode lookup sorted
     received_some = record { code = x.lengths; decodes = received_code }
 
-    pub received_left : (k : List ℕ → Reading (List ℕ)) {whole : Step Place (List ℕ)} → Left seg (next table k) c whole → Left seg (k x.lengths) d whole
+    pub received_left : (k : List ℕ → Reading (List ℕ)) {whole : Step Place (List ℕ)} → Left seg (next table k) c whole → Left seg
+        (k x.lengths) d whole
     received_left k l = left-next k l x.reads e
 
   -- a table that is refused, where the buffer is then cleared
-  pub received_none : (k : List ℕ → Reading (List ℕ)) {m : Reading (List ℕ)} {before after : List ℕ} {n p : ℕ} → Left seg (next table k) c (run (from_bits seg) m start) → r ≡ Refused n p → after ≡ zeros before
+  pub received_none : (k : List ℕ → Reading (List ℕ)) {m : Reading (List ℕ)} {before after : List ℕ} {n p : ℕ} → Left seg (next table k) c
+      (run (from_bits seg) m start) → r ≡ Refused n p → after ≡ zeros before
       → Fills seg m before after (record { refusal = n; at = p })
   received_none k {before = before} l e z = fills_none before (left-stop k l x.reads e) refl z
 
@@ -81,14 +91,16 @@ module _ {seg lent : List ℕ} {c d : Cursor} {r : Sent} {n : ℕ} {lookup sorte
   pub entries_ask : Holds seg d × SomeCode lookup sorted
   entries_ask = let y = table_decoder x e k in (received_holds y refl, received_some y refl)
 
-  pub entries-fill : (m : Reading (List ℕ)) (rest : List ℕ → Reading (List ℕ)) → next table rest ≡ m → {before after : List ℕ} {w : Ended} → place c ≡ 0
+  pub entries-fill : (m : Reading (List ℕ)) (rest : List ℕ → Reading (List ℕ)) → next table rest ≡ m → {before after : List ℕ} {w : Ended} →
+      place c ≡ 0
       → ((ls : List ℕ) → Decodes ls lookup sorted → FillsFrom seg d (rest ls) before after w) → Fills seg m before after w
   entries-fill m rest is first fills =
       let y = table_decoder x e k in
       fills_left (fills y.lengths (received_code y refl)) (received_left y refl rest (rw is (all_left seg m c first)))
 
 pub entries_none : {seg lent : List ℕ} {c : Cursor} {r : Sent} {n p : ℕ} (x : Lengths seg c lent r) → r ≡ Declined n p
-    → (m : Reading (List ℕ)) (rest : List ℕ → Reading (List ℕ)) → next table rest ≡ m → {before after : List ℕ} → place c ≡ 0 → after ≡ zeros before
+    → (m : Reading (List ℕ)) (rest : List ℕ → Reading (List ℕ)) → next table rest ≡ m → {before after : List ℕ} → place c ≡ 0 → after ≡
+    zeros before
     → Fills seg m before after (record { refusal = n; at = p })
 entries_none {seg = seg} {c = c} x e m rest is first z =
     received_none (no_table x e [] []) rest (rw is (all_left seg m c first)) refl z

@@ -26,4 +26,5 @@ cleared_more {before} {i} {out} x h =
 pub cleared-all : {before : List ℕ} {i : ℕ} {out : List ℕ} → Cleared before i out → length out ≤ i → out ≡ zeros before
 cleared-all {before} {i} {out} x h =
     let n : i ≡ length before = omega (arith, x.long, x.within) in
-    x.same ∙ ap (λ (l : List ℕ). replicate i 0 ++ l) (drop_of_length-le before {i = i} (omega arith)) ∙ append-nil (replicate i 0) ∙ ap (λ (k : ℕ). replicate k 0) n
+    x.same ∙ ap (λ (l : List ℕ). replicate i 0 ++ l) (drop_of_length-le before {i = i} (omega arith)) ∙ append-nil (replicate i 0) ∙ ap
+    (λ (k : ℕ). replicate k 0) n

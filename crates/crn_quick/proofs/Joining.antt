@@ -29,7 +29,8 @@ each_two n h = rw h
 
 -- ---- k of a plane's n tiles done, from a cursor
 
-pub record Tilings (lookup sorted seg : List ℕ) (ps : Planes) (p : Side) (base n i : ℕ) (c : Cursor) (b l m : ℕ) (before out : List ℕ) (at : Cursor) (last k : ℕ) : Type 0 where
+pub record Tilings (lookup sorted seg : List ℕ) (ps : Planes) (p : Side) (base n i : ℕ) (c : Cursor) (b l m : ℕ) (before out : List ℕ)
+    (at : Cursor) (last k : ℕ) : Type 0 where
   pub blamed : ℕ
   pub tiling : Tiling lookup sorted seg ps p base n i (stream_at c b l) before out (stream_at at blamed m) last k
 
@@ -45,7 +46,8 @@ module _ {lookup sorted seg : List ℕ} {ps : Planes} {p : Side} {base n i : ℕ
 
   module _ {before out : List ℕ} {at : Cursor} {last k : ℕ} (x : QuickTiling lookup sorted seg ps p base n i c before out at last k) where
     -- one instance has what does not depend on the budget
-    pub quick_now : Tiling lookup sorted seg ps p base n i (stream_at c 0 k) before out (stream_at at (x 0 k 0 (omega arith)).blamed 0) last k
+    pub quick_now : Tiling lookup sorted seg ps p base n i (stream_at c 0 k) before out (stream_at at (x 0 k 0 (omega arith)).blamed 0) last
+        k
     quick_now = (x 0 k 0 (omega arith)).tiling
 
     pub quick_more : {d : Cursor} {j len : ℕ} → k < n → Stepped lookup sorted seg ps p.ends p.endpoints true last at d j len
@@ -62,11 +64,14 @@ module _ {lookup sorted seg : List ℕ} {ps : Planes} {p : Side} {base n i : ℕ
 -- ---- the tiles of each plane
 
 -- from another cursor at the same place
-tiles-moved : {lookup sorted seg : List ℕ} {ps : Planes} {p : Side} {base n i : ℕ} {c d : Cursor} {b l : ℕ} {before after : List ℕ} {a : Drew} → place d ≡ place c
-    → Tiled lookup sorted seg ps p base n i (stream_at d b l) before after a → Tiled lookup sorted seg ps p base n i (stream_at c b l) before after a
+tiles-moved : {lookup sorted seg : List ℕ} {ps : Planes} {p : Side} {base n i : ℕ} {c d : Cursor} {b l : ℕ} {before after : List ℕ}
+    {a : Drew} → place d ≡ place c
+    → Tiled lookup sorted seg ps p base n i (stream_at d b l) before after a → Tiled lookup sorted seg ps p base n i (stream_at c b l)
+    before after a
 tiles-moved {seg = seg} {p = p} {n = n} {i = i} {b = b} {l = l} e t =
     record {
-      same = λ cs k. t.same cs k ∙ ap (λ (z : ℕ). run (source seg) (endpoint_indices (plane_of cs p) n i []) (record { place = spot z b; left = l })) e;
+      same = λ cs k. t.same cs k ∙ ap (λ (z : ℕ). run (source seg) (endpoint_indices (plane_of cs p) n i [])
+          (record { place = spot z b; left = l })) e;
       on = t.on;
       kept = t.kept;
     }
@@ -114,12 +119,14 @@ module _ {lookup sorted seg : List ℕ} (ps : Planes) (inside : Bool) (s0 s1 : �
 
 -- ---- k of the four positions done, from a cursor
 
-pub record Pickings (lookup sorted seg : List ℕ) (ps : Planes) (right bottom : Bool) (s0 s1 : ℕ) (c : Cursor) (b l m : ℕ) (before out : List ℕ) (at : Cursor) (i0 i1 len k : ℕ) : Type 0 where
+pub record Pickings (lookup sorted seg : List ℕ) (ps : Planes) (right bottom : Bool) (s0 s1 : ℕ) (c : Cursor) (b l m : ℕ)
+    (before out : List ℕ) (at : Cursor) (i0 i1 len k : ℕ) : Type 0 where
   pub blamed : ℕ
   pub picking : Picking lookup sorted seg ps right bottom s0 s1 (stream_at c b l) before out (stream_at at blamed m) i0 i1 k
   pub behind : 0 < k → blamed ≡ place at - len
 
-pub record QuickPicking (lookup sorted seg : List ℕ) (ps : Planes) (right bottom : Bool) (s0 s1 : ℕ) (c : Cursor) (before out : List ℕ) (at : Cursor) (i0 i1 len k : ℕ) : Type 0 where
+pub record QuickPicking (lookup sorted seg : List ℕ) (ps : Planes) (right bottom : Bool) (s0 s1 : ℕ) (c : Cursor) (before out : List ℕ)
+    (at : Cursor) (i0 i1 len k : ℕ) : Type 0 where
   pub going : (b l m : ℕ) → l ≡ m + each ps.two k → Pickings lookup sorted seg ps right bottom s0 s1 c b l m before out at i0 i1 len k
   pub passed : len ≤ place at
 
@@ -129,7 +136,8 @@ each_more true k m l e = omega arith
 each_more false k m l e = omega arith
 
 module _ {lookup sorted seg : List ℕ} {ps : Planes} {right bottom : Bool} {s0 s1 : ℕ} {c : Cursor} where
-  pub picks_none : (before : List ℕ) → Holds seg c → s0 < most → s1 < most → QuickPicking lookup sorted seg ps right bottom s0 s1 c before before c s0 s1 0 0
+  pub picks_none : (before : List ℕ) → Holds seg c → s0 < most → s1 < most → QuickPicking lookup sorted seg ps right bottom s0 s1 c before
+      before c s0 s1 0 0
   picks_none before h f g =
       record {
         going = λ b l m e.
@@ -142,8 +150,10 @@ module _ {lookup sorted seg : List ℕ} {ps : Planes} {right bottom : Bool} {s0 
       none true e = omega arith
       none false e = omega arith
 
-  module _ {before out : List ℕ} {at : Cursor} {i0 i1 len k : ℕ} (x : QuickPicking lookup sorted seg ps right bottom s0 s1 c before out at i0 i1 len k) where
-    pub picks_now : Picking lookup sorted seg ps right bottom s0 s1 (stream_at c 0 (each ps.two k)) before out (stream_at at (x.going 0 (each ps.two k) 0 (omega arith)).blamed 0) i0 i1 k
+  module _ {before out : List ℕ} {at : Cursor} {i0 i1 len k : ℕ}
+      (x : QuickPicking lookup sorted seg ps right bottom s0 s1 c before out at i0 i1 len k) where
+    pub picks_now : Picking lookup sorted seg ps right bottom s0 s1 (stream_at c 0 (each ps.two k)) before out
+        (stream_at at (x.going 0 (each ps.two k) 0 (omega arith)).blamed 0) i0 i1 k
     picks_now = (x.going 0 (each ps.two k) 0 (omega arith)).picking
 
     pub picks_more : {d q : Cursor} {i j n : ℕ} → Holds seg d → place d ≡ place at → k < 4
@@ -154,7 +164,8 @@ module _ {lookup sorted seg : List ℕ} {ps : Planes} {right bottom : Bool} {s0 
           going = λ b l m f.
               let y = x.going b l (m + each ps.two 1) (each_more ps.two k m l f) in
               let t = y.picking in
-              let moved : Picking lookup sorted seg ps right bottom s0 s1 (stream_at c b l) before out (stream_at d y.blamed (m + each ps.two 1)) i0 i1 k =
+              let moved : Picking lookup sorted seg ps right bottom s0 s1 (stream_at c b l) before out
+              (stream_at d y.blamed (m + each ps.two 1)) i0 i1 k =
               record {
                 some = t.some;
                 holds = h;
@@ -163,7 +174,8 @@ module _ {lookup sorted seg : List ℕ} {ps : Planes} {right bottom : Bool} {s0 
                 long = t.long;
                 kept = t.kept;
                 left = λ cs z. t.left cs z
-                    ∙ ap (λ (w : ℕ). run (source seg) (position_selectors (planes cs ps) (drop k (inside_of right bottom)) (row ps.two i0 i1) (rows_to ps.two out k)) (record { place = spot w y.blamed; left = m + each ps.two 1 })) (sym e);
+                    ∙ ap (λ (w : ℕ). run (source seg) (position_selectors (planes cs ps) (drop k (inside_of right bottom))
+                    (row ps.two i0 i1) (rows_to ps.two out k)) (record { place = spot w y.blamed; left = m + each ps.two 1 })) (sym e);
               } in
               record {
                 blamed = place q - n;
@@ -200,7 +212,8 @@ pub single_more : {lookup sorted seg : List ℕ} (ps : Planes) (right bottom : B
     → ((inside : Bool) → Stepped lookup sorted seg ps ps.first.sels ps.first.selectors inside i0 d q i n)
     → QuickPicking lookup sorted seg ps right bottom s0 s1 c before (set (set out (8 + k) i) (12 + k) 0) q i 0 n (k + 1)
 single_more ps right bottom {i0 = i0} {i1 = i1} k one room x h e more y =
-    picks_more x h e more (picked-one ps (get_or (inside_of right bottom) k true) i0 i1 (y (get_or (inside_of right bottom) k true)) one) room
+    picks_more x h e more (picked-one ps (get_or (inside_of right bottom) k true) i0 i1 (y (get_or (inside_of right bottom) k true)) one)
+    room
 
 -- ---- tiles and positions
 

@@ -56,7 +56,8 @@ when_chunk P h e = subst (WhenChunk P) e h
 -- ---- a symbol, and an index
 
 -- lk and so are the decoder table of number `which`, e is what the cursor's bits begin with
-module _ (lookup sorted : List ℕ) {seg lk so : List ℕ} (ps : Planes) (which : ℕ) (decodes : (cs : ℕ → List ℕ) → Coded cs ps lookup sorted → Decodes (cs which) lk so) (u : Usable lk so)
+module _ (lookup sorted : List ℕ) {seg lk so : List ℕ} (ps : Planes) (which : ℕ)
+    (decodes : (cs : ℕ → List ℕ) → Coded cs ps lookup sorted → Decodes (cs which) lk so) (u : Usable lk so)
     {c : Cursor} (h : Holds seg c) (enough : 16 ≤ c.have) {e : ℕ} (is : e ≡ found_in lk so c.bits) (some : e ≡ 0 → ⊥) where
   pub code-short : e % 64 ≤ 16
   code-short = found-length h (λ few. absurd (omega arith)) u e is some
@@ -68,7 +69,8 @@ module _ (lookup sorted : List ℕ) {seg lk so : List ℕ} (ps : Planes) (which 
   code_holds = after-drop h (omega (arith, code-short))
 
   drawn : (b l m : ℕ) → l ≡ m + 1 → (cs : ℕ → List ℕ) → Coded cs ps lookup sorted
-      → run (source seg) (symbol (cs which)) (spending (stream_at c b l)) ≡ got (e / 64) (spending (stream_at (past c (e % 64)) (place c) m))
+      → run (source seg) (symbol (cs which)) (spending (stream_at c b l)) ≡ got (e / 64)
+      (spending (stream_at (past c (e % 64)) (place c) m))
   drawn b l m f cs k =
       let r = found-drawn h (λ few. absurd (omega arith)) u e is some (omega (arith, code-short)) in
       let q : l - 1 ≡ m = omega arith in
@@ -104,6 +106,7 @@ found-code {seg = seg} {s = s} x at v none few some {b} q =
     let r = x.drawn s.blamed s.left (s.left - 1) (omega arith) in
     rw q (record {
       same = λ cs k. sym (code_got (source seg) (cs 0) (spending s) v none
-          (ap (λ (z : ℕ). run (source seg) (symbol (cs 0)) (record { place = spot z s.blamed; left = s.left })) (sym at) ∙ sym (r.same cs k)) few);
+          (ap (λ (z : ℕ). run (source seg) (symbol (cs 0)) (record { place = spot z s.blamed; left = s.left })) (sym at) ∙ sym
+          (r.same cs k)) few);
       on = (r.on.0, omega arith);
     })

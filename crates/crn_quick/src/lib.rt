@@ -8,7 +8,7 @@ ghost use Rattle.crn_format.specs.Limits.{too_long, max_entries};
 ghost use Rattle.crn_chunks.specs.Meaning.{Onward, Served, Named, Small, most};
 ghost use Rattle.crn_chunks.specs.Parts.{Ready};
 ghost use Rattle.crn_chunks.specs.Reads.{Reads};
-ghost use Rattle.crn_quick.specs.Quick.{Able, each as «eachOf», QuickFound, QuickStepped, QuickTiled, QuickAllTiled, QuickPicks, QuickAllPicked, QuickEncodes, QuickRead, QuickReads};
+ghost use Rattle.crn_quick.specs.Quick.{Able, each as each_of, QuickFound, QuickStepped, QuickTiled, QuickAllTiled, QuickPicks, QuickAllPicked, QuickEncodes, QuickRead, QuickReads};
 
 use crn_chunks::{Carried, Chunked, Planes, Side, Stream};
 use crn_consts::tile_count;
@@ -56,7 +56,7 @@ enum QuickChunk {
 // n for each plane.
 fn each(two: bool, n: u64) -> u64
     requires { n ≤ 8 }
-    ensures { (result ≡ «eachOf» two n) × (result ≤ 16) }
+    ensures { (result ≡ each_of two n) × (result ≤ 16) }
 {
     if two {
         return n + n;

@@ -34,9 +34,12 @@ module _ {seg ls : List ℕ} {n : ℕ} {c : Cursor} (first : place_of c ≡ 0) w
   reads : (a b : Taken) → Takes seg (a_number n) c a → Takes seg (a_symbol ls) (cursor_after c a) b
       → step_of (pair_of a b (place_of (cursor_after (cursor_after c a) b))) ≡ run (from_bits seg) (pair n ls) (spot (place_of c) 0)
   unfolding run then
-  reads (Failed k) b took drew = ap (λ (p : ℕ). refused k (spot p p)) (sym first) ∙ sym (taken-failed took (λ v. draw ls λ y. answer (v, y)) 0 refl)
-  reads (Value v d) (Failed k) took drew = sym (taken-value took (λ v. draw ls λ y. answer (v, y)) 0 refl ∙ taken-failed drew (λ y. answer (v, y)) 0 refl)
-  reads (Value v d) (Value y e) took drew = sym (taken-value took (λ v. draw ls λ y. answer (v, y)) 0 refl ∙ taken-value drew (λ y. answer (v, y)) 0 refl)
+  reads (Failed k) b took drew = ap (λ (p : ℕ). refused k (spot p p)) (sym first) ∙ sym
+      (taken-failed took (λ v. draw ls λ y. answer (v, y)) 0 refl)
+  reads (Value v d) (Failed k) took drew = sym (taken-value took (λ v. draw ls λ y. answer (v, y)) 0 refl ∙ taken-failed drew
+      (λ y. answer (v, y)) 0 refl)
+  reads (Value v d) (Value y e) took drew = sym (taken-value took (λ v. draw ls λ y. answer (v, y)) 0 refl ∙ taken-value drew
+      (λ y. answer (v, y)) 0 refl)
 
 -- the same of a reader that was made, and was moved by each answer
 module _ {s : Bor (List ℕ)} {lookup sorted : List ℕ} {n m : ℕ} {r r₁ r₂ : Reader} {a b : Taken} {x : Pair}
@@ -47,7 +50,8 @@ module _ {s : Bor (List ℕ)} {lookup sorted : List ℕ} {n m : ℕ} {r r₁ r�
   pub pair_reads : (ls : List ℕ) → Decodes ls lookup sorted → step_of x ≡ run (from_bits s.now) (pair n ls) start
   pair_reads ls decodes =
       let took' : Takes s.now (a_number n) r.cursor a = subst (λ (y : Bor (List ℕ)). Takes y.now (a_number n) r.cursor a) made.0 took in
-      let drew₁ : Takes r.seg.now (a_symbol ls) (cursor_after r.cursor a) b = subst (λ (y : Reader). Takes y.seg.now (a_symbol ls) y.cursor b) on
+      let drew₁ : Takes r.seg.now (a_symbol ls) (cursor_after r.cursor a) b = subst
+      (λ (y : Reader). Takes y.seg.now (a_symbol ls) y.cursor b) on
       (drew ls decodes) in
       let drew' : Takes s.now (a_symbol ls) (cursor_after r.cursor a) b = subst (λ (y : Bor (List ℕ)). Takes y.now (a_symbol ls)
       (cursor_after r.cursor a) b) made.0 drew₁ in

@@ -1,11 +1,11 @@
 // The bit reader "keeps the segment it reads and its place" (document 01, Codes). Each function over it takes it apart and leaves
-// the work to crn_symbol_codec's function on the segment and the cursor, since what holds a reference is proved by hand.
+// the work to crn_symbol_codec's function on the segment and the cursor.
 #![tactic(auto)]
 
 ghost use Rattle.std.specs.Prelude.{◌≡◌, List, ℕ, ◌<◌, ◌≤◌, length};
 ghost use Rattle.crn_format.specs.Limits.{too_long};
 ghost use Rattle.crn_format.specs.Reading.{a_symbol, a_number, start, run, from_bits};
-ghost use Rattle.crn_symbol_codec.specs.Cursors.{place as «place_of», Holds};
+ghost use Rattle.crn_symbol_codec.specs.Cursors.{place as place_of, Holds};
 ghost use Rattle.crn_symbol_codec.specs.Taking.{Takes};
 ghost use Rattle.crn_symbol_codec.specs.Decoders.{Usable, Decodes, SomeCode};
 ghost use Rattle.crn_reader.specs.Moving.{cursor_after, moved_by};
@@ -21,7 +21,7 @@ pub struct Reader<'a> {
 
 // At the segment's first bit.
 pub fn make<'a>(seg: &'a [u8]) -> Reader<'a>
-    ensures { (result.seg ≡ seg.entry) × Holds seg.now result.cursor × («place_of» result.cursor ≡ 0) }
+    ensures { (result.seg ≡ seg.entry) × Holds seg.now result.cursor × (place_of result.cursor ≡ 0) }
 {
     Reader {
         seg,
@@ -32,7 +32,7 @@ pub fn make<'a>(seg: &'a [u8]) -> Reader<'a>
 // The place of the next bit.
 pub fn place<'a>(r: Reader<'a>) -> usize
     requires { Holds r.seg.now r.cursor × (length r.seg.now < too_long) }
-    ensures { result ≡ «place_of» r.entry.cursor }
+    ensures { result ≡ place_of r.entry.cursor }
 {
     crn_symbol_codec::place(r.seg, r.cursor)
 }

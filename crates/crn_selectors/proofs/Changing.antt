@@ -21,10 +21,12 @@ use Rattle.crn_palettes.proofs.Leaving.{Left, left_is, left-mark, left-drawn, le
 pub record Changed (seg : List ℕ) (top : ℕ) (t : List ℕ) (j : ℕ) (vs : List ℕ) (at : Cursor) (whole : Step Place (List ℕ)) : Type 0 where
   pub left : Left seg (changed top t (8 - j) j vs) at whole
 
-pub pairs-none : (seg : List ℕ) (top : ℕ) (t vs : List ℕ) (c : Cursor) (b : ℕ) → Changed seg top t 0 vs c (run (from_bits seg) (changed top t 8 0 vs) (spot (place c) b))
+pub pairs-none : (seg : List ℕ) (top : ℕ) (t vs : List ℕ) (c : Cursor) (b : ℕ) → Changed seg top t 0 vs c
+    (run (from_bits seg) (changed top t 8 0 vs) (spot (place c) b))
 pairs-none seg top t vs c b = record { left = record { blamed = b; same = refl } }
 
-module _ {seg : List ℕ} {top : ℕ} {t : List ℕ} {j : ℕ} {vs : List ℕ} {at : Cursor} {whole : Step Place (List ℕ)} (x : Changed seg top t j vs at whole) where
+module _ {seg : List ℕ} {top : ℕ} {t : List ℕ} {j : ℕ} {vs : List ℕ} {at : Cursor} {whole : Step Place (List ℕ)}
+    (x : Changed seg top t j vs at whole) where
   -- by what the next symbol means
   meant : ℕ → Reading (List ℕ)
   meant s = pick (ltb s (delta_count top * delta_count top)) (changed top t (8 - (j + 1)) (j + 1) (pair_moved top j s vs)) (refuse 9)
@@ -41,12 +43,14 @@ module _ {seg : List ℕ} {top : ℕ} {t : List ℕ} {j : ℕ} {vs : List ℕ} {
     pair-failed e = left-failed (left-mark pair-first) k e
 
     module _ {s : ℕ} {d : Cursor} (e : r ≡ Value s d) where
-      pub pair-more : {n : ℕ} {ws : List ℕ} → n ≡ delta_count top * delta_count top → s < n → ws ≡ pair_moved top j s vs → Changed seg top t (j + 1) ws d whole
+      pub pair-more : {n : ℕ} {ws : List ℕ} → n ≡ delta_count top * delta_count top → s < n → ws ≡ pair_moved top j s vs → Changed seg top t
+          (j + 1) ws d whole
       unfolding meant
       pair-more m l f =
           record {
             left = rw f
-                (left_is (ap (λ b. pick b (changed top t (8 - (j + 1)) (j + 1) (pair_moved top j s vs)) (refuse 9)) (lt-ltb _ _ (rw m at l)))
+                (left_is (ap (λ b. pick b (changed top t (8 - (j + 1)) (j + 1) (pair_moved top j s vs)) (refuse 9))
+                (lt-ltb _ _ (rw m at l)))
                 (left-drawn (left-mark pair-first) k e));
           }
 
@@ -56,7 +60,8 @@ module _ {seg : List ℕ} {top : ℕ} {t : List ℕ} {j : ℕ} {vs : List ℕ} {
       pair_bad m l =
           sym (at_noted pair-first)
           ∙ taken-value k meant (place at) e
-          ∙ ap (λ b. run (from_bits seg) (pick b (changed top t (8 - (j + 1)) (j + 1) (pair_moved top j s vs)) (refuse 9)) (spot (place d) (place at))) (le-ltb _ _ (rw m at l))
+          ∙ ap (λ b. run (from_bits seg) (pick b (changed top t (8 - (j + 1)) (j + 1) (pair_moved top j s vs)) (refuse 9))
+          (spot (place d) (place at))) (le-ltb _ _ (rw m at l))
           ∙ at-refuse seg 9 (place d) (place at)
 
   pub pairs_done : 8 ≤ j → Left seg (answer vs) at whole

@@ -69,7 +69,8 @@ module _ {top bits : ℕ} {vs : List ℕ} {word k shift : ℕ} (v w : ℕ) (x : 
   both =
       add-mul v (2 ^ bits * w) (2 ^ shift)
       ∙ ap (λ (n : ℕ). v * 2 ^ shift + n * 2 ^ shift) (mul_comm (2 ^ bits) w)
-      ∙ ap (λ (n : ℕ). v * 2 ^ shift + n) (mul_assoc w (2 ^ bits) (2 ^ shift) ∙ ap (λ (n : ℕ). w * n) (mul_comm (2 ^ bits) (2 ^ shift) ∙ sym (pow-add 2 shift bits)))
+      ∙ ap (λ (n : ℕ). v * 2 ^ shift + n) (mul_assoc w (2 ^ bits) (2 ^ shift) ∙ ap (λ (n : ℕ). w * n)
+      (mul_comm (2 ^ bits) (2 ^ shift) ∙ sym (pow-add 2 shift bits)))
 
   whole : (v + 2 ^ bits * w) * 2 ^ shift % 2 ^ 64 ≡ (v + 2 ^ bits * w) * 2 ^ shift
   whole = shl_exact (bits + bits) shift 64 (rw (mul_comm (2 ^ bits) w) (above v w bits bits l m)) (omega (arith, x.near))

@@ -17,7 +17,8 @@ use Rattle.crn_selectors.proofs.Packing.{Packed, packed-kept, two_fit, packed-tw
 -- ---- a list by its indices
 
 -- one more element of a table
-pub table_more : (P : ℕ → ℕ → Type 0) (out : List ℕ) (i v : ℕ) → i < length out → ((k : ℕ) → k < i → P k (get_or out k 0)) → P i v → (k : ℕ) → k < i + 1 → P k (get_or (set out i v) k 0)
+pub table_more : (P : ℕ → ℕ → Type 0) (out : List ℕ) (i v : ℕ) → i < length out → ((k : ℕ) → k < i → P k (get_or out k 0)) → P i v → (k : ℕ)
+    → k < i + 1 → P k (get_or (set out i v) k 0)
 table_more P out i v h below here k l = go (ℕ_discrete k i)
   where
     go : Dec (k ≡ i) → P k (get_or (set out i v) k 0)
@@ -113,7 +114,8 @@ module _ {x y u v : ℕ} (e : u ≡ x) (f : v ≡ y) where
   moved-alpha h l =
       rw (e, f)
       (record {
-        first = low_half ((x + y) % 8) ((x + y) / 16 % 8) (omega arith) ∙ low_eight (x + y) ∙ ap (λ (n : ℕ). n % 8) (low_sum x y h.first l.first);
+        first = low_half ((x + y) % 8) ((x + y) / 16 % 8) (omega arith) ∙ low_eight (x + y) ∙ ap (λ (n : ℕ). n % 8)
+            (low_sum x y h.first l.first);
         second = high_half ((x + y) % 8) ((x + y) / 16 % 8) (omega arith) ∙ ap (λ (n : ℕ). n % 8) (high_sum x y h.first l.first);
       })
 
@@ -155,7 +157,8 @@ few_bits false = omega arith
 
 -- r, which is written n, takes the place of the j-th pair
 module _ (alpha : Bool) (ps : List ℕ) (j r : ℕ) {n word shift : ℕ}
-    (x : Packed (top_of alpha) (bits_of alpha) (values_of ps) word (2 * j) shift) (h : j < 8) (l : j < length ps) (e : n ≡ written_pair alpha r) where
+    (x : Packed (top_of alpha) (bits_of alpha) (values_of ps) word (2 * j) shift) (h : j < 8) (l : j < length ps)
+    (e : n ≡ written_pair alpha r) where
   before : Packed (top_of alpha) (bits_of alpha) (values_of (set ps j r)) word (2 * j) shift
   before = rw (values_set ps j r) (packed-kept (packed-kept x (2 * j) (r % 16) (omega arith)) (2 * j + 1) (r / 16) (omega arith))
 

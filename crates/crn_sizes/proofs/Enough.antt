@@ -24,7 +24,8 @@ fours n q = ap (λ (x : ℕ). x % 4) (ap (λ (x : ℕ). n * x) (mul_comm 4 q) �
 pub grid-fits : (faces columns rows q : ℕ) → grid_fits (close faces columns rows (4 * q)) ≡ true
 grid-fits faces columns rows q =
     let pitch : columns * (4 * q) % 4 ≡ 0 = fours columns q in
-    let distance : rows * (columns * (4 * q)) % 4 ≡ 0 = ap (λ (x : ℕ). x % 4) (sym (mul_assoc rows columns (4 * q))) ∙ fours (rows * columns) q in
+    let distance : rows * (columns * (4 * q)) % 4 ≡ 0 = ap (λ (x : ℕ). x % 4) (sym (mul_assoc rows columns (4 * q))) ∙ fours
+    (rows * columns) q in
     simp (
       eq-eqb (columns * (4 * q) % 4) 0 pitch,
       eq-eqb (rows * (columns * (4 * q)) % 4) 0 distance,

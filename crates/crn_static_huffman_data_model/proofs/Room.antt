@@ -109,8 +109,20 @@ empty_or_some t (suc n) = go (empty_or_some t n) (ℕ_discrete (get_or t n 0) 0)
           none = λ l h. simp (ne_eqb (get_or t n 0) l (omega arith)) (omega (arith, e.none l h));
           room-is = simp (eq-eqb _ _ q) (omega (arith, e.room-is));
         })
-    go (inr e) (yes q) = inr (record { symbol = e.symbol; under = omega (arith, e.under); coded = e.coded; room-is = simp (eq-eqb _ _ q) (omega (arith, e.room-is)) })
-    go e (no q) = inr (record { symbol = n; under = omega arith; coded = omega arith; room-is = simp (ne_eqb _ _ q) (omega (arith, pow_pos (16 - get_or t n 0))) })
+    go (inr e) (yes q) = inr (record {
+      symbol = e.symbol;
+      under = omega (arith, e.under);
+      coded = e.coded;
+      room-is = simp (eq-eqb _ _ q)
+          (omega (arith, e.room-is));
+    })
+    go e (no q) = inr (record {
+      symbol = n;
+      under = omega arith;
+      coded = omega arith;
+      room-is = simp (ne_eqb _ _ q)
+          (omega (arith, pow_pos (16 - get_or t n 0)));
+    })
 
 -- there is a code where the codes take some room
 longest_by_room : (t : List ℕ) → Short t → ltb 0 (longest t) ≡ ltb 0 (room t (length t))
@@ -122,7 +134,8 @@ longest_by_room t short = ⊎_elim empty some (empty_or_some t (length t))
     some : Some t (length t) → ltb 0 (longest t) ≡ ltb 0 (room t (length t))
     some e =
         let y = e.symbol in
-        let long = last-above t 16 (get_or t y 0) (short y) (omega (arith, used_pos t (get_or t y 0) e.coded, below_lt t y (length t) e.under)) in
+        let long = last-above t 16 (get_or t y 0) (short y) (omega
+        (arith, used_pos t (get_or t y 0) e.coded, below_lt t y (length t) e.under)) in
         lt-ltb 0 (longest t) (omega (arith, long, e.coded)) ∙ sym (lt-ltb _ _ e.room-is)
 
 -- a code by the room alone

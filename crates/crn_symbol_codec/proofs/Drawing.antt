@@ -29,7 +29,8 @@ module _ {lookup sorted seg : List ℕ} {c : Cursor} (h : Holds seg c) (enough :
 
   module _ (e : ℕ) (is : e ≡ found_in lookup sorted c.bits) (some : e ≡ 0 → ⊥) where
     said : (walked lookup sorted seg (place c) ≡ if_there seg (place c) (e / 64) (e % 64)) × (0 < e % 64) × (e % 64 ≤ longest_in lookup)
-    said = hit (counts_in lookup) sorted seg (place c) (longest_in lookup) (longest_in lookup) (omega arith) (front 64 c.bits) firsts e (omega (arith, u.most)) is some
+    said = hit (counts_in lookup) sorted seg (place c) (longest_in lookup) (longest_in lookup) (omega arith) (front 64 c.bits) firsts e
+        (omega (arith, u.most)) is some
 
     pub found-length : e % 64 ≤ 16
     found-length = omega (arith, said.2, u.most)
@@ -53,7 +54,8 @@ module _ {lookup sorted seg : List ℕ} {c : Cursor} (h : Holds seg c) (enough :
 
   module _ (none : found_in lookup sorted c.bits ≡ 0) where
     passed : walked lookup sorted seg (place c) ≡ rest_from (counts_in lookup) sorted seg (place c) (longest_in lookup) (longest_in lookup)
-    passed = miss (counts_in lookup) sorted seg (place c) (longest_in lookup) (longest_in lookup) (omega arith) (front 64 c.bits) firsts (omega (arith, h.within, h.behind)) none
+    passed = miss (counts_in lookup) sorted seg (place c) (longest_in lookup) (longest_in lookup) (omega arith) (front 64 c.bits) firsts
+        (omega (arith, h.within, h.behind)) none
 
     pub none-short : c.have < longest_in lookup → Draws lookup sorted seg c (Failed 8)
     none-short l =
@@ -65,7 +67,8 @@ module _ {lookup sorted seg : List ℕ} {c : Cursor} (h : Holds seg c) (enough :
     none_begins l =
         let k : place c + longest_in lookup ≤ bit_count seg = omega (arith, h.within, h.behind) in
         record {
-          same = sym (passed ∙ simp (le-leb _ _ k) (walk_done (counts_in lookup) sorted seg (place c) (longest_in lookup) (longest_in lookup) _ _ (omega arith)));
+          same = sym (passed ∙ simp (le-leb _ _ k) (walk_done (counts_in lookup) sorted seg (place c) (longest_in lookup)
+              (longest_in lookup) _ _ (omega arith)));
           holds = tt;
           near = tt;
         }
@@ -75,14 +78,15 @@ module _ {lookup sorted seg : List ℕ} {c : Cursor} (h : Holds seg c) (enough :
   pub in_entries : 32 + c.bits / 2 ^ (64 - width_in lookup) < length lookup
   in_entries = within-entries u c.bits fits
 
-  module _ (e : ℕ) (is : e ≡ get_or (take (length lookup - 32) (drop 32 lookup)) (c.bits / 2 ^ (64 - width_in lookup)) 0) (some : e ≡ 0 → ⊥) where
-    found : e ≡ found_in lookup sorted c.bits
-    found =
-        let short = is ∙ entry-short u c.bits fits in
-        short ∙ short-found u c.bits (λ z. some (short ∙ z))
+  module _ (e : ℕ) (is : e ≡ get_or (take (length lookup - 32) (drop 32 lookup)) (c.bits / 2 ^ (64 - width_in lookup)) 0) (some : e ≡ 0 → ⊥)
+    where
+      found : e ≡ found_in lookup sorted c.bits
+      found =
+          let short = is ∙ entry-short u c.bits fits in
+          short ∙ short-found u c.bits (λ z. some (short ∙ z))
 
-    pub entry_length : e % 64 ≤ 16
-    entry_length = found-length e found some
+      pub entry_length : e % 64 ≤ 16
+      entry_length = found-length e found some
 
-    pub entry_found : e % 64 ≤ c.have → Draws lookup sorted seg c (Value (e / 64) (past c (e % 64)))
-    entry_found l = found-drawn e found some l
+      pub entry_found : e % 64 ≤ c.have → Draws lookup sorted seg c (Value (e / 64) (past c (e % 64)))
+      entry_found l = found-drawn e found some l

@@ -63,7 +63,8 @@ module _ (cs ss s : List ℕ) (p w : ℕ) (g : ℕ → ℕ) (same : (j : ℕ) �
       gk = same (k + 1) (omega arith)
 
       go : (find cs ss g n (k + 1) (2 * (f + get_or cs (k + 1) 0)) (o + get_or cs (k + 1) 0) ≡ 64 * y + l
-          → (walk cs ss s p m (k + 1) (2 * (f + get_or cs (k + 1) 0)) (o + get_or cs (k + 1) 0) ≡ if_there s p y l) × (k + 1 < l) × (l ≤ k + 1 + n))
+          → (walk cs ss s p m (k + 1) (2 * (f + get_or cs (k + 1) 0)) (o + get_or cs (k + 1) 0) ≡ if_there s p y l) × (k + 1 < l) ×
+          (l ≤ k + 1 + n))
           → Dec (g (k + 1) < f + get_or cs (k + 1) 0) → Dec (p + (k + 1) ≤ bit_count s)
           → (walk cs ss s p (suc m) k f o ≡ if_there s p y l) × (k < l) × (l ≤ k + suc n)
       go ih (yes v) d =
@@ -77,15 +78,19 @@ module _ (cs ss s : List ℕ) (p w : ℕ) (g : ℕ → ℕ) (same : (j : ℕ) �
           let r = ih (simp (le-ltb (g (k + 1)) (f + get_or cs (k + 1) 0) (omega arith)) at e) in
           (simp (le-ltb _ _ v', le-leb _ _ d) r.0, omega (arith, r.1), omega (arith, r.2))
       go ih (no v) (no d) =
-          let r = ih (simp (le-ltb (g (k + 1)) (f + get_or cs (k + 1) 0) (omega arith)) at e) in
-          (simp (lt-leb (p + (k + 1)) (bit_count s) (omega arith), lt-leb (p + l) (bit_count s) (omega (arith, r.1))), omega (arith, r.1), omega (arith, r.2))
+          let r = ih (simp (le-ltb (g (k + 1)) (f + get_or cs (k + 1) 0) (omega arith)) at e) in (
+            simp (lt-leb (p + (k + 1)) (bit_count s) (omega arith), lt-leb (p + l) (bit_count s) (omega (arith, r.1))),
+            omega (arith, r.1),
+            omega (arith, r.2),
+          )
 
   -- such an entry has a length in it
   find_shape : (n k f o : ℕ) → k + n < 64 → find cs ss g n k f o % 64 ≡ 0 → find cs ss g n k f o ≡ 0
   unfolding find
   find_shape zero k f o a e = refl
   find_shape (suc n) k f o a e =
-      go (find_shape n (k + 1) (2 * (f + get_or cs (k + 1) 0)) (o + get_or cs (k + 1) 0) (omega arith)) (dec_lt (g (k + 1)) (f + get_or cs (k + 1) 0))
+      go (find_shape n (k + 1) (2 * (f + get_or cs (k + 1) 0)) (o + get_or cs (k + 1) 0) (omega arith))
+      (dec_lt (g (k + 1)) (f + get_or cs (k + 1) 0))
     where
       go : (find cs ss g n (k + 1) (2 * (f + get_or cs (k + 1) 0)) (o + get_or cs (k + 1) 0) % 64 ≡ 0
           → find cs ss g n (k + 1) (2 * (f + get_or cs (k + 1) 0)) (o + get_or cs (k + 1) 0) ≡ 0)
@@ -113,7 +118,8 @@ module _ (cs ss s : List ℕ) (p w : ℕ) (g : ℕ → ℕ) (same : (j : ℕ) �
             → walk cs ss s p (m - (k + 1)) (k + 1) (first_by cs (k + 1)) (off_by cs (k + 1)) ≡ rest_from cs ss s p m (k + 1 + n))
             → Dec (p + (k + 1) ≤ bit_count s) → walk cs ss s p (m - k) k (first_by cs k) (off_by cs k) ≡ rest_from cs ss s p m (k + suc n)
         go ih (yes d) =
-            let v = walk_more cs ss s p m k (first_by cs k) (off_by cs k) (omega arith) d (omega (arith, here.0, same (k + 1) (omega arith))) in
+            let v = walk_more cs ss s p m k (first_by cs k) (off_by cs k) (omega arith) d
+            (omega (arith, here.0, same (k + 1) (omega arith))) in
             rw kn (rw (← first_step cs k, ← off_step cs k) at v ∙ ih d here.1)
         go ih (no d) =
             let q : bit_count s < p + (k + suc n) = omega arith in
@@ -125,7 +131,8 @@ module _ (cs ss s : List ℕ) (p m w : ℕ) (wm : w ≤ m) (g : ℕ → ℕ) (sa
       → (walk cs ss s p m 0 0 0 ≡ if_there s p (e / 64) (e % 64)) × (0 < e % 64) × (e % 64 ≤ w)
   hit e sm is some =
       let some-length = pos (dec_lt 0 (e % 64)) in
-      let r = by_entry cs ss s p w g same w m 0 0 0 (e / 64) (e % 64) (omega arith) wm some-length (omega arith) sm (sym is ∙ omega arith) in
+      let r = by_entry cs ss s p w g same w m 0 0 0 (e / 64) (e % 64) (omega arith) wm some-length (omega arith) sm (sym is ∙ omega arith)
+      in
       (r.0, r.1, omega (arith, r.2))
     where
       pos : Dec (0 < e % 64) → 0 < e % 64

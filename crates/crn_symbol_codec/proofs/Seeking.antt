@@ -15,10 +15,15 @@ use Rattle.crn_symbol_codec.proofs.Finding.{first_step, off_step, missed, find_n
 -- ---- over any bits, of which g l are the first l
 
 -- only the first w bits matter
-find_cong : (cs ss : List ℕ) {g h : ℕ → ℕ} (w : ℕ) → ((j : ℕ) → j ≤ w → g j ≡ h j) → (n k f o : ℕ) → k + n ≤ w → find cs ss g n k f o ≡ find cs ss h n k f o
+find_cong : (cs ss : List ℕ) {g h : ℕ → ℕ} (w : ℕ) → ((j : ℕ) → j ≤ w → g j ≡ h j) → (n k f o : ℕ) → k + n ≤ w → find cs ss g n k f o ≡ find
+    cs ss h n k f o
 unfolding find
 find_cong cs ss w same zero k f o a = refl
-find_cong cs ss w same (suc n) k f o a = rw (same (k + 1) (omega arith), find_cong cs ss w same n (k + 1) (2 * (f + get_or cs (k + 1) 0)) (o + get_or cs (k + 1) 0) (omega arith))
+find_cong cs ss w same (suc n) k f o a = rw (
+  same (k + 1) (omega arith),
+  find_cong cs ss w same n (k + 1) (2 * (f + get_or cs (k + 1) 0))
+      (o + get_or cs (k + 1) 0) (omega arith),
+)
 
 module _ (cs ss : List ℕ) (g : ℕ → ℕ) where
   -- more lengths find what fewer found
@@ -26,10 +31,12 @@ module _ (cs ss : List ℕ) (g : ℕ → ℕ) where
   unfolding find
   find_hit zero m k f o a some = absurd (some refl)
   find_hit (suc n) zero k f o a some = absurd (omega arith)
-  find_hit (suc n) (suc m) k f o a some = go (find_hit n m (k + 1) (2 * (f + get_or cs (k + 1) 0)) (o + get_or cs (k + 1) 0) (omega arith)) (dec_lt (g (k + 1)) (f + get_or cs (k + 1) 0))
+  find_hit (suc n) (suc m) k f o a some = go (find_hit n m (k + 1) (2 * (f + get_or cs (k + 1) 0)) (o + get_or cs (k + 1) 0) (omega arith))
+      (dec_lt (g (k + 1)) (f + get_or cs (k + 1) 0))
     where
       go : ((find cs ss g n (k + 1) (2 * (f + get_or cs (k + 1) 0)) (o + get_or cs (k + 1) 0) ≡ 0 → ⊥)
-          → find cs ss g m (k + 1) (2 * (f + get_or cs (k + 1) 0)) (o + get_or cs (k + 1) 0) ≡ find cs ss g n (k + 1) (2 * (f + get_or cs (k + 1) 0)) (o + get_or cs (k + 1) 0))
+          → find cs ss g m (k + 1) (2 * (f + get_or cs (k + 1) 0)) (o + get_or cs (k + 1) 0) ≡ find cs ss g n (k + 1)
+          (2 * (f + get_or cs (k + 1) 0)) (o + get_or cs (k + 1) 0))
           → Dec (g (k + 1) < f + get_or cs (k + 1) 0) → find cs ss g (suc m) k f o ≡ find cs ss g (suc n) k f o
       go ih (yes v) = simp (lt-ltb _ _ v)
       go ih (no v) =
@@ -50,7 +57,8 @@ module _ (cs ss : List ℕ) (g : ℕ → ℕ) where
 
   -- the bits are then not below the first longer code
   module _ (w : ℕ) (double : (j : ℕ) → j < w → 2 * g j ≤ g (j + 1)) where
-    find-low : (n k : ℕ) → k + n < w → first_by cs k ≤ g (k + 1) → find cs ss g n k (first_by cs k) (off_by cs k) ≡ 0 → first_by cs (k + n) ≤ g (k + n + 1)
+    find-low : (n k : ℕ) → k + n < w → first_by cs k ≤ g (k + 1) → find cs ss g n k (first_by cs k) (off_by cs k) ≡ 0 → first_by cs (k + n)
+        ≤ g (k + n + 1)
     find-low zero k a h e = rw add-zero h
     find-low (suc n) k a h e =
         let kn : k + suc n ≡ k + 1 + n = omega arith in
@@ -67,7 +75,8 @@ module _ (cs ss : List ℕ) (g : ℕ → ℕ) where
     unfolding find
     find-here h = rw left (simp (lt-ltb _ _ h))
 
-    find-more : f + get_or cs (k + 1) 0 ≤ g (k + 1) → find cs ss g (m - k) k f o ≡ find cs ss g (m - (k + 1)) (k + 1) (2 * (f + get_or cs (k + 1) 0)) (o + get_or cs (k + 1) 0)
+    find-more : f + get_or cs (k + 1) 0 ≤ g (k + 1) → find cs ss g (m - k) k f o ≡ find cs ss g (m - (k + 1)) (k + 1)
+        (2 * (f + get_or cs (k + 1) 0)) (o + get_or cs (k + 1) 0)
     unfolding find
     find-more h = rw left (simp (le-ltb _ _ h))
 
@@ -111,14 +120,17 @@ module _ {lookup sorted : List ℕ} (u : Usable lookup sorted) where
         ap (λ (es : List ℕ). get_or es (front 64 bits (width_in lookup)) 0) (entries-whole lookup)
         ∙ u.entries.each (front 64 bits (width_in lookup)) index
         ∙ find_cong (counts_in lookup) sorted (width_in lookup)
-        (λ j h. front-twice bits (64 - width_in lookup) (width_in lookup - j) j (omega (arith, u.few))) (width_in lookup) 0 0 0 (omega arith)
+        (λ j h. front-twice bits (64 - width_in lookup) (width_in lookup - j) j (omega (arith, u.few))) (width_in lookup) 0 0 0
+        (omega arith)
 
   -- one that is not 0 is what the bits begin with
   pub short-found : (bits : ℕ) → (short_in lookup sorted bits ≡ 0 → ⊥) → short_in lookup sorted bits ≡ found_in lookup sorted bits
-  short-found bits some = sym (find_hit (counts_in lookup) sorted (front 64 bits) (width_in lookup) (longest_in lookup) 0 0 0 (coded (ℕ_discrete (longest_in lookup) 0)) some)
+  short-found bits some = sym (find_hit (counts_in lookup) sorted (front 64 bits) (width_in lookup) (longest_in lookup) 0 0 0
+      (coded (ℕ_discrete (longest_in lookup) 0)) some)
     where
       coded : Dec (longest_in lookup ≡ 0) → width_in lookup ≤ longest_in lookup
-      coded (yes z) = absurd (some (find_none (counts_in lookup) sorted (front 64 bits) (width_in lookup) 0 0 (u.none z) (omega (arith, u.few))))
+      coded (yes z) = absurd (some (find_none (counts_in lookup) sorted (front 64 bits) (width_in lookup) 0 0 (u.none z)
+          (omega (arith, u.few))))
       coded (no z) = u.under (omega arith)
 
 -- ---- the codes of more than `width_in lookup` bits
@@ -153,9 +165,11 @@ module _ {lookup sorted : List ℕ} (u : Usable lookup sorted) {bits : ℕ} wher
           }
       go (no z) =
           record {
-            low = λ l. rw u.first (rw at_width at (find-low cs sorted (front 64 bits) 64 (double bits) (width_in lookup) 0 (omega (arith, u.few)) (omega arith) missed-all));
+            low = λ l. rw u.first (rw at_width at (find-low cs sorted (front 64 bits) 64 (double bits) (width_in lookup) 0
+                (omega (arith, u.few)) (omega arith) missed-all));
             few = λ l. rw u.offset (off_small cs (width_in lookup) u.counts (omega (arith, u.few)));
-            same = rw (u.first, u.offset) (sym (rw at_width at (find_miss cs sorted (front 64 bits) (width_in lookup) (longest_in lookup) 0 (u.under (omega arith)) missed-all)));
+            same = rw (u.first, u.offset) (sym (rw at_width at (find_miss cs sorted (front 64 bits) (width_in lookup) (longest_in lookup) 0
+                (u.under (omega arith)) missed-all)));
           }
 
   module _ {k first offset : ℕ} (t : Long lookup sorted bits k first offset) where
@@ -165,8 +179,11 @@ module _ {lookup sorted : List ℕ} (u : Usable lookup sorted) {bits : ℕ} wher
     -- a turn's numbers are small
     pub long-small : bits < 2 ^ 64 → k < longest_in lookup → (front 64 bits (k + 1) < 65536) × (get_or lookup (8 + (k + 1)) 0 ≤ 65535)
     long-small fits l =
-        let e : (k + 1) + (64 - (k + 1)) ≡ 64 = omega (arith, u.most) in
-        (lt_of_lt_of_le (shr_lt (k + 1) (64 - (k + 1)) (rw e fits)) (pow_mono {i = k + 1} {j = 16} (omega (arith, u.most))), rw get_or-drop at (u.counts (k + 1) (omega (arith, u.most))))
+        let e : (k + 1) + (64 - (k + 1)) ≡ 64 = omega (arith, u.most) in (
+          lt_of_lt_of_le (shr_lt (k + 1) (64 - (k + 1)) (rw e fits)) (pow_mono {i = k + 1} {j = 16} (omega (arith, u.most))),
+          rw get_or-drop
+              at (u.counts (k + 1) (omega (arith, u.most))),
+        )
 
     -- a length more: v are the bits, n is how many codes have it
     module _ (v n : ℕ) (l : k < longest_in lookup) (v-is : v ≡ front 64 bits (k + 1)) (n-is : n ≡ get_or lookup (8 + (k + 1)) 0) where

@@ -60,7 +60,8 @@ served_eight seg n p k w e = go (leb (p + n) (bit_count seg)) e
 number-failed : {seg : List ℕ} {n k : ℕ} {c : Cursor} {r : Taken} → Takes seg (a_number n) c r → r ≡ Failed k → k ≡ 8
 number-failed {seg} {n} {k} {c} t e = served_eight seg n (place c) k _ (served-failed t e 0)
 
-pub number-refused : {A : Type 0} {seg : List ℕ} {n k : ℕ} {c : Cursor} {r : Taken} → Takes seg (a_number n) c r → (f : ℕ → Reading A) (b : ℕ) → r ≡ Failed k
+pub number-refused : {A : Type 0} {seg : List ℕ} {n k : ℕ} {c : Cursor} {r : Taken} → Takes seg (a_number n) c r → (f : ℕ → Reading A)
+    (b : ℕ) → r ≡ Failed k
     → run (from_bits seg) (number n f) (spot (place c) b) ≡ refused 8 (spot (place c) (place c))
 number-refused {c = c} t f b e = taken-failed t f b e ∙ ap (λ (k : ℕ). refused k (spot (place c) (place c))) (number-failed t e)
 

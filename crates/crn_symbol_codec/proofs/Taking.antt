@@ -54,7 +54,8 @@ unfolding of_drawn
 took-drew p b (Value v d) = refl
 took-drew p b (Failed n) = refl
 
-pub takes-symbol : {ls lookup sorted seg : List ℕ} {c : Cursor} {r : Taken} → Draws lookup sorted seg c r → Decodes ls lookup sorted → Takes seg (a_symbol ls) c r
+pub takes-symbol : {ls lookup sorted seg : List ℕ} {c : Cursor} {r : Taken} → Draws lookup sorted seg c r → Decodes ls lookup sorted → Takes
+    seg (a_symbol ls) c r
 unfolding served
 takes-symbol {ls} {lookup} {sorted} {seg} {c} {r} t d =
     record {

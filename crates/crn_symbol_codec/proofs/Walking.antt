@@ -38,7 +38,8 @@ module _ (cs ss s : List ℕ) (p m k f o : ℕ) where
 
 -- ---- by the lengths
 -- what stands at the r-th place of a length
-stands : (ls ss : List ℕ) (l r : ℕ) → Sorted ls ss (length ls) → 0 < l → r < used ls l → get_or ss (offset_of ls l + r) 0 ≡ nth ls (length ls) l r
+stands : (ls ss : List ℕ) (l r : ℕ) → Sorted ls ss (length ls) → 0 < l → r < used ls l → get_or ss (offset_of ls l + r) 0 ≡ nth ls
+    (length ls) l r
 stands ls ss l r all h u =
     let is = nth-is ls (length ls) l r (omega (arith, used_pos ls l h)) in
     let at = all (nth ls (length ls) l r) is.under (omega (arith, is.length-is)) in
@@ -68,9 +69,16 @@ module _ (ls cs ss s : List ℕ) (p : ℕ) (counts : Counts ls cs) (sorted : Sor
       go ih (no a) d = simp (lt-leb (p + (k + 1)) (bit_count s) (omega arith))
       go ih (yes a) (yes d) =
           simp (count_is, le-leb _ _ a, lt-ltb _ _ d)
-          (ap (λ (x : ℕ). symbol_at x (p + (k + 1))) (stands ls ss (k + 1) (spelled s p (k + 1) - first_code ls (k + 1)) sorted (omega arith) (omega arith)))
+          (ap (λ (x : ℕ). symbol_at x (p + (k + 1))) (stands ls ss (k + 1) (spelled s p (k + 1) - first_code ls (k + 1)) sorted
+          (omega arith) (omega arith)))
       go ih (yes a) (no d) =
-          simp (count_is, le-leb _ _ a, le-ltb (spelled s p (k + 1)) (first_code ls (k + 1) + used ls (k + 1)) (omega arith), first-is, offset-is)
+          simp (
+            count_is,
+            le-leb _ _ a,
+            le-ltb (spelled s p (k + 1)) (first_code ls (k + 1) + used ls (k + 1)) (omega arith),
+            first-is,
+            offset-is,
+          )
           (ih (omega arith) (low-next ls s p (k + 1) (omega arith)))
 
 pub walked-drawn : (ls lookup ss s : List ℕ) (p : ℕ) → Decodes ls lookup ss → walked lookup ss s p ≡ drawn ls s p

@@ -4,7 +4,7 @@
 ghost use Rattle.std.specs.Prelude.{◌≡◌, List, ℕ, ◌+◌, ◌*◌, ◌<◌, ◌≤◌, length, get_or};
 ghost use Rattle.crn_format.specs.Limits.{too_long};
 ghost use Rattle.crn_format.specs.Reading.{a_symbol, a_number};
-ghost use Rattle.crn_symbol_codec.specs.Cursors.{place as «place_of», past, Holds, Enough, Filled};
+ghost use Rattle.crn_symbol_codec.specs.Cursors.{place as place_of, past, Holds, Enough, Filled};
 ghost use Rattle.crn_symbol_codec.specs.Taking.{refusal_of, Takes, Near};
 ghost use Rattle.crn_symbol_codec.specs.Decoders.{Usable, Decodes, short_in, found_in};
 
@@ -37,7 +37,7 @@ pub fn refusal(t: Taken) -> u32
 
 // At the segment's first bit.
 pub fn start(seg: &[u8]) -> Cursor
-    ensures { Holds seg.now result × («place_of» result ≡ 0) }
+    ensures { Holds seg.now result × (place_of result ≡ 0) }
 {
     Cursor {
         bits: 0,
@@ -49,7 +49,7 @@ pub fn start(seg: &[u8]) -> Cursor
 // The place of the next bit.
 pub fn place(seg: &[u8], c: Cursor) -> usize
     requires { (Holds seg.now c) × (length seg.now < too_long) }
-    ensures { result ≡ «place_of» c }
+    ensures { result ≡ place_of c }
 {
     8 * c.next - c.have as usize
 }

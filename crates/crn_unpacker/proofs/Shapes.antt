@@ -46,22 +46,26 @@ tiles-long (p ∷ ps) n [] h = absurd (omega arith)
 tiles-long (p ∷ ps) n (i ∷ is) h =
     one_longer (endpoint_indices p n i []) (plane_endpoints ps n is) (length ps) (tiles-long ps n is (omega arith))
 
-selectors-long : (ps : List Plane) (inside : Bool) (is : List ℕ) → length is ≡ length ps → All (λ js. length js ≡ length ps) (plane_selectors ps inside is)
+selectors-long : (ps : List Plane) (inside : Bool) (is : List ℕ) → length is ≡ length ps → All (λ js. length js ≡ length ps)
+    (plane_selectors ps inside is)
 unfolding plane_selectors
 selectors-long [] inside is h = all-answer (λ js. length js ≡ 0) refl
 selectors-long (p ∷ ps) inside [] h = absurd (omega arith)
 selectors-long (p ∷ ps) inside (i ∷ is) h =
     one_longer (selector_index p inside i) (plane_selectors ps inside is) (length ps) (selectors-long ps inside is (omega arith))
 
-positions-long : (ps : List Plane) (insides : List Bool) (is : List ℕ) (rows : List (List ℕ)) (n : ℕ) → length is ≡ length ps → Rowed (length ps) n rows
+positions-long : (ps : List Plane) (insides : List Bool) (is : List ℕ) (rows : List (List ℕ)) (n : ℕ) → length is ≡ length ps → Rowed
+    (length ps) n rows
     → All (Rowed (length ps) (n + length insides)) (position_selectors ps insides is rows)
 unfolding position_selectors
 positions-long ps [] is rows n h r =
     let e : n ≡ n + 0 = omega arith in all-answer (Rowed (length ps) (n + 0)) (subst (λ (k : ℕ). Rowed (length ps) k rows) e r)
 positions-long ps (inside ∷ insides) is rows n h r =
     let e : suc n + length insides ≡ n + suc (length insides) = omega arith in
-    subst (λ (k : ℕ). All (Rowed (length ps) k) (next (plane_selectors ps inside is) λ js. position_selectors ps insides js (rows ++ (js ∷ [])))) e
-    (all-next (λ js. length js ≡ length ps) (Rowed (length ps) (suc n + length insides)) (plane_selectors ps inside is) (λ js. position_selectors ps insides js (rows ++ (js ∷ [])))
+    subst (λ (k : ℕ). All (Rowed (length ps) k) (next (plane_selectors ps inside is) λ js. position_selectors ps insides js
+    (rows ++ (js ∷ [])))) e
+    (all-next (λ js. length js ≡ length ps) (Rowed (length ps) (suc n + length insides)) (plane_selectors ps inside is)
+    (λ js. position_selectors ps insides js (rows ++ (js ∷ [])))
     (selectors-long ps inside is h)
     (λ js long. positions-long ps insides js (rows ++ (js ∷ [])) (suc n) long (one_more js r long)))
 
@@ -92,7 +96,8 @@ module _ (ls : List ℕ) (ps : List Plane) where
         },
       ))))
 
-  module _ {S : Type 0} (src : Source S) (flags : ℕ → List Bool) (four : (n : ℕ) → length (flags n) ≡ 4) (r : Running) (w : S) (sized : Sized (length ps) r) where
+  module _ {S : Type 0} (src : Source S) (flags : ℕ → List Bool) (four : (n : ℕ) → length (flags n) ≡ 4) (r : Running) (w : S)
+      (sized : Sized (length ps) r) where
     -- where the next state is reached, so is the chunk before it
     record Reached (n : ℕ) (q₁ : Running) (v₁ : S) : Type 0 where
       at : Running
@@ -105,21 +110,31 @@ module _ (ls : List ℕ) (ps : List Plane) where
     unfolding state_to
     reached n q₁ v₁ e = outer (state_to src ls ps flags r w n) refl e
       where
-        inner : (q : Running) (v : S) → state_to src ls ps flags r w n ≡ got q v → (z : Step S (Chunk × Running)) → run src (chunk ls ps (flags n) q) v ≡ z
+        inner : (q : Running) (v : S) → state_to src ls ps flags r w n ≡ got q v → (z : Step S (Chunk × Running)) → run src
+            (chunk ls ps (flags n) q) v ≡ z
             → then {B = Running} z (λ b u. got b.1 u) ≡ got q₁ v₁ → Reached n q₁ v₁
         inner q v is (got b u) runs e =
             let z : ◌≡◌ {A = Step S Running} (got b.1 u) (got q₁ v₁) = (unfold then in e) in
             let eq : b.1 ≡ q₁ = cc in
             let ev : u ≡ v₁ = cc in
-            record { at = q; place = v; state = is; read = b.0; runs = runs ∙ ap (λ (x : Running). got (b.0, x) u) eq ∙ ap (λ (x : S). got (b.0, q₁) x) ev }
+            record {
+              at = q;
+              place = v;
+              state = is;
+              read = b.0;
+              runs = runs ∙ ap (λ (x : Running). got (b.0, x) u) eq ∙ ap
+                  (λ (x : S). got (b.0, q₁) x) ev;
+            }
         inner q v is (refused x u) runs e =
-            let z : ◌≡◌ {A = Step S Running} (refused x u) (got q₁ v₁) = (unfold then in e) in let y : ◌≡◌ {A = ℕ} 0 1 = cc in absurd (omega arith)
+            let z : ◌≡◌ {A = Step S Running} (refused x u) (got q₁ v₁) = (unfold then in e) in let y : ◌≡◌ {A = ℕ} 0 1 = cc in absurd
+            (omega arith)
 
         outer : (y : Step S Running) → state_to src ls ps flags r w n ≡ y
             → then y (λ q v. then {B = Running} (run src (chunk ls ps (flags n) q) v) (λ b u. got b.1 u)) ≡ got q₁ v₁ → Reached n q₁ v₁
         outer (got q v) is e = inner q v is (run src (chunk ls ps (flags n) q) v) refl (unfold then in e)
         outer (refused x u) is e =
-            let z : ◌≡◌ {A = Step S Running} (refused x u) (got q₁ v₁) = (unfold then in e) in let y : ◌≡◌ {A = ℕ} 0 1 = cc in absurd (omega arith)
+            let z : ◌≡◌ {A = Step S Running} (refused x u) (got q₁ v₁) = (unfold then in e) in let y : ◌≡◌ {A = ℕ} 0 1 = cc in absurd
+            (omega arith)
 
     state-sized : (n : ℕ) (q : Running) (v : S) → state_to src ls ps flags r w n ≡ got q v → Sized (length ps) q
     unfolding state_to
@@ -130,7 +145,8 @@ module _ (ls : List ℕ) (ps : List Plane) where
         (chunk_good (flags n) x.at (four n) (state-sized n x.at x.place x.state)) x.place x.runs).1
 
     -- a chunk that comes before a state that is reached
-    pub chunk_shaped : (n k : ℕ) {q : Running} {v : S} → k < n → state_to src ls ps flags r w n ≡ got q v → Shaped (length ps) (chunk_to src ls ps flags r w k)
+    pub chunk_shaped : (n k : ℕ) {q : Running} {v : S} → k < n → state_to src ls ps flags r w n ≡ got q v → Shaped (length ps)
+        (chunk_to src ls ps flags r w k)
     chunk_shaped n k {q} {v} h e = go (state_to src ls ps flags r w (suc k)) refl
       where
         go : (y : Step S Running) → state_to src ls ps flags r w (suc k) ≡ y → Shaped (length ps) (chunk_to src ls ps flags r w k)

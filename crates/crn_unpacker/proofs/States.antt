@@ -38,7 +38,8 @@ module _ {S : Type 0} (src : Source S) (ls : List ℕ) (ps : List Plane) (flags 
   chunk-got n fl e f h = rw e (rw (rw f at h))
 
   -- what was refused stays refused
-  pub stays : (n m : ℕ) {x : ℕ} {u : S} → n ≤ m → state_to src ls ps flags r w n ≡ refused x u → state_to src ls ps flags r w m ≡ refused x u
+  pub stays : (n m : ℕ) {x : ℕ} {u : S} → n ≤ m → state_to src ls ps flags r w n ≡ refused x u → state_to src ls ps flags r w m ≡ refused x
+      u
   unfolding state_to then
   stays n m {x} {u} h e = le_ind (λ (k : ℕ). state_to src ls ps flags r w k ≡ refused x u) e (λ k q i. rw i) m h
 
@@ -57,18 +58,21 @@ module _ {S : Type 0} (src : Source S) (ls : List ℕ) (ps : List Plane) where
       run-next src (chunk ls ps y r) _ w
       ∙ then_cong (run src (chunk ls ps y r) w) _ _ (λ a v. chunks-more ys x a.1 (cs ++ (a.0 ∷ [])) v)
       ∙ sym (then_assoc (run src (chunk ls ps y r) w) (λ a v. run src (chunks ls ps ys a.1 (cs ++ (a.0 ∷ []))) v) (onward x))
-      ∙ sym (ap (λ (z : Step S (List Chunk × Running)). then z (onward x)) (run-next src (chunk ls ps y r) (λ a. chunks ls ps ys a.1 (cs ++ (a.0 ∷ []))) w))
+      ∙ sym (ap (λ (z : Step S (List Chunk × Running)). then z (onward x))
+      (run-next src (chunk ls ps y r) (λ a. chunks ls ps ys a.1 (cs ++ (a.0 ∷ []))) w))
 
   -- the chunk that is read, put after those before it
   inner : (cs : List Chunk) (z : Step S (Chunk × Running))
-      → then {B = List Chunk × Running} z (λ b u. got (cs ++ (b.0 ∷ []), b.1) u) ≡ then {A = Running} (then z (λ b u. got b.1 u)) (λ q v. got (cs ++ (chunk_in z ∷ []), q) v)
+      → then {B = List Chunk × Running} z (λ b u. got (cs ++ (b.0 ∷ []), b.1) u) ≡ then {A = Running} (then z (λ b u. got b.1 u))
+      (λ q v. got (cs ++ (chunk_in z ∷ []), q) v)
   unfolding then chunk_in
   inner cs (got b u) = refl
   inner cs (refused n u) = refl
 
   put-after : (cs : List Chunk) (y : Step S Running) (x : List Bool)
       → then (then {B = List Chunk × Running} y (λ q v. got (cs, q) v)) (onward x)
-      ≡ then {A = Running} {B = List Chunk × Running} (then y (λ q v. then (run src (chunk ls ps x q) v) (λ b u. got b.1 u))) (λ q v. got (cs ++ (chunk_after src ls ps x y ∷ []), q) v)
+      ≡ then {A = Running} {B = List Chunk × Running} (then y (λ q v. then (run src (chunk ls ps x q) v) (λ b u. got b.1 u)))
+      (λ q v. got (cs ++ (chunk_after src ls ps x y ∷ []), q) v)
   unfolding then chunk_after
   put-after cs (got q v) x = inner cs (run src (chunk ls ps x q) v)
   put-after cs (refused n v) x = refl
@@ -76,7 +80,8 @@ module _ {S : Type 0} (src : Source S) (ls : List ℕ) (ps : List Plane) where
 insides-more : (g : Grid) (c n : ℕ) → insides g c (suc n) ≡ insides g c n ++ (inside g (c + n) ∷ [])
 unfolding insides
 insides-more g c zero = let e : c + 0 ≡ c = omega arith in rw e
-insides-more g c (suc n) = let e : c + suc n ≡ c + 1 + n = omega arith in rw e (ap (λ (l : List (List Bool)). inside g c ∷ l) (insides-more g (c + 1) n))
+insides-more g c (suc n) = let e : c + suc n ≡ c + 1 + n = omega arith in rw e
+    (ap (λ (l : List (List Bool)). inside g c ∷ l) (insides-more g (c + 1) n))
 
 none-run : {S : Type 0} (src : Source S) (ls : List ℕ) (ps : List Plane) (g : Grid) (r : Running) (w : S)
     → run src (chunks ls ps (insides g 0 0) r []) w ≡ then {B = List Chunk × Running} (got r w) (λ q v. got ([], q) v)
@@ -93,7 +98,8 @@ chunks-run src ls ps g r w (suc n) =
     rw (insides-more g 0 n)
     (chunks-more src ls ps (insides g 0 n) (inside g (0 + n)) r [] w
     ∙ ap (λ (y : Step _ (List Chunk × Running)). then y (onward src ls ps (inside g (0 + n)))) (chunks-run src ls ps g r w n)
-    ∙ ap (λ (k : ℕ). then (then (state_to src ls ps (inside g) r w n) (λ q v. got (chunks_to src ls ps (inside g) r w n, q) v)) (onward src ls ps (inside g k))) (zero-add n)
+    ∙ ap (λ (k : ℕ). then (then (state_to src ls ps (inside g) r w n) (λ q v. got (chunks_to src ls ps (inside g) r w n, q) v))
+    (onward src ls ps (inside g k))) (zero-add n)
     ∙ put-after src ls ps (chunks_to src ls ps (inside g) r w n) (state_to src ls ps (inside g) r w n) (inside g n))
 
 -- ---- the chunks of the definition's answer are those that the loops meet
@@ -125,4 +131,5 @@ module _ {S : Type 0} (src : Source S) (ls : List ℕ) (ps : List Plane) (flags 
         where
           at_here : chunk_at (chunks_to src ls ps flags r w n ++ (chunk_to src ls ps flags r w n ∷ [])) n ≡ chunk_to src ls ps flags r w n
           at_here = rw (as_many n) at (at-end (chunks_to src ls ps flags r w n) (chunk_to src ls ps flags r w n))
-      go ih (no e) = at_before (chunks_to src ls ps flags r w n) (chunk_to src ls ps flags r w n) k (omega (arith, as_many n)) ∙ ih (omega arith)
+      go ih (no e) = at_before (chunks_to src ls ps flags r w n) (chunk_to src ls ps flags r w n) k (omega (arith, as_many n)) ∙ ih
+          (omega arith)

@@ -164,7 +164,8 @@ module _ (l : Given) (f cx cy : ℕ) {r : Carried} {s : Stream} {out : List ℕ}
           → block_in l.palettes l.planes e out u ≡ block_here l h u
       value h st u lo hi =
           let here-now : u / 4 ≡ number = omega arith in
-          let here : chunk_here l h number ≡ chunk_of l.planes.two e out = chunk-got _ _ _ _ _ _ number _ st.state (sym (inside_of l.grid f cx cy at)) (read_so reads is h.codes st.coded) in
+          let here : chunk_here l h number ≡ chunk_of l.planes.two e out = chunk-got _ _ _ _ _ _ number _ st.state
+          (sym (inside_of l.grid f cx cy at)) (read_so reads is h.codes st.coded) in
           same_block l h e out number u here-now here
 
       gone : (h : Course) → Stands l h number r s → Gone l h number (number + 1) d d' n t
@@ -195,8 +196,10 @@ pub chunk-number : (g : Grid) (f k cy cx : ℕ) (turned : Bool) → turned ≡ e
     → cx ≡ pick turned (chunk_columns g - 1 - k) k → chunk_number g f cx cy ≡ row_start g f cy + k
 chunk-number g f k cy cx turned is h at =
     ⊎_elim
-    (λ even. ap (λ (x : ℕ). chunk_number g f x cy) (at ∙ ap (λ (b : Bool). pick b (chunk_columns g - 1 - k) k) (is ∙ ne_eqb (cy % 2) 1 (λ z. omega arith))) ∙ chunk-number-right g f k cy even)
-    (λ odd. ap (λ (x : ℕ). chunk_number g f x cy) (at ∙ ap (λ (b : Bool). pick b (chunk_columns g - 1 - k) k) (is ∙ eq-eqb (cy % 2) 1 odd)) ∙ chunk-number-left g f k cy odd h)
+    (λ even. ap (λ (x : ℕ). chunk_number g f x cy) (at ∙ ap (λ (b : Bool). pick b (chunk_columns g - 1 - k) k)
+    (is ∙ ne_eqb (cy % 2) 1 (λ z. omega arith))) ∙ chunk-number-right g f k cy even)
+    (λ odd. ap (λ (x : ℕ). chunk_number g f x cy) (at ∙ ap (λ (b : Bool). pick b (chunk_columns g - 1 - k) k) (is ∙ eq-eqb (cy % 2) 1 odd))
+    ∙ chunk-number-left g f k cy odd h)
     (parity cy)
 
 -- it is one of the row's

@@ -43,7 +43,8 @@ none-fresh l cs = fresh-row l.planes.two (plane_of cs l.planes.first) (plane_of 
 abbrev pub level_course : Given → (ℕ → List ℕ) → Stream → Course
 level_course l cs s = record { codes = cs; begun = fresh (planes cs l.planes); from = spending s }
 
-pub stands-first : (l : Given) (cs : ℕ → List ℕ) (s : Stream) → Coded cs l.planes l.lookup l.sorted → Stands l (level_course l cs s) 0 none s
+pub stands-first : (l : Given) (cs : ℕ → List ℕ) (s : Stream) → Coded cs l.planes l.lookup l.sorted → Stands l (level_course l cs s) 0 none
+    s
 stands-first l cs s coded =
     record {
       coded = coded;
@@ -73,7 +74,8 @@ module _ (l : Given) (cs : ℕ → List ℕ) (s : Stream) where
   all : levelRun ≡ then lastState (λ q v. got (chunks_here l (level_course l cs s)) v)
   unfolding level
   all =
-      run-next (source l.seg) (chunks (cs 0) (planes cs l.planes) (insides l.grid 0 (chunk_count l.grid)) (fresh (planes cs l.planes)) []) (λ a. answer a.0) (spending s)
+      run-next (source l.seg) (chunks (cs 0) (planes cs l.planes) (insides l.grid 0 (chunk_count l.grid)) (fresh (planes cs l.planes)) [])
+      (λ a. answer a.0) (spending s)
       ∙ ap (λ (y : Step Spending (List Chunk × Running)). then y (λ a v. run (source l.seg) (answer a.0) v))
       (chunks-run (source l.seg) (cs 0) (planes cs l.planes) l.grid (fresh (planes cs l.planes)) (spending s) (chunk_count l.grid))
       ∙ without_carried (source l.seg) (chunks_here l (level_course l cs s)) lastState
@@ -94,7 +96,12 @@ module _ (l : Given) (h : Course) (f x y : ℕ) (at : In l.grid f x y) where
   number = grid.chunk_of l.grid f x y
 
   number-below : number < chunk_count l.grid
-  number-below = chunk-below l.grid f (x / 2) (y / 2) (record { face = at.face; column = omega (arith, at.column); row = omega (arith, at.row) })
+  number-below = chunk-below l.grid f (x / 2) (y / 2) (record {
+    face = at.face;
+    column = omega (arith, at.column);
+    row = omega
+        (arith, at.row);
+  })
 
   by_turn : block_here l h (turn l.grid f x y) ≡ block_of (shades l) (chunk_here l h number) (position_of x y)
   unfolding block_here turn
@@ -109,7 +116,8 @@ module _ (l : Given) (h : Course) (f x y : ℕ) (at : In l.grid f x y) where
   block-at =
       by_turn
       ∙ ap (λ (c : Chunk). block_of (shades l) c (position_of x y))
-      (sym (chunk-at (source l.seg) (h.codes 0) (planes h.codes l.planes) (inside l.grid) h.begun h.from (chunk_count l.grid) number number-below))
+      (sym (chunk-at (source l.seg) (h.codes 0) (planes h.codes l.planes) (inside l.grid) h.begun h.from (chunk_count l.grid) number
+      number-below))
 
 four : (g : Grid) (n : ℕ) → length (inside g n) ≡ 4
 unfolding inside
@@ -175,7 +183,8 @@ module _ {l : Given} {s : Stream} {d e : List ℕ} {w : Went} (goes : Goes l 0 (
       record {
         runs = level-got l cs s gone.state;
         sized = sized;
-        picture = whole (block_at l.grid (shades l) (chunks_here l h)) fit.room gone.paint (λ f x y at. (block-at l h f x y at, sized f x y at));
+        picture = whole (block_at l.grid (shades l) (chunks_here l h)) fit.room gone.paint
+            (λ f x y at. (block-at l h f x y at, sized f x y at));
       }
     where
       h : Course

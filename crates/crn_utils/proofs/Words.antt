@@ -18,7 +18,8 @@ unfolding little_at
 halves s at = simp add_assoc (omega arith)
 
 -- the bytes of a number that was read are the bytes that it was read from
-pub bytes-again : (s : List ℕ) → ((k : ℕ) → get_or s k 0 < 256) → (n at i : ℕ) → i < n → get_or (little n (little_at s at n)) i 0 ≡ get_or s (at + i) 0
+pub bytes-again : (s : List ℕ) → ((k : ℕ) → get_or s k 0 < 256) → (n at i : ℕ) → i < n → get_or (little n (little_at s at n)) i 0 ≡ get_or s
+    (at + i) 0
 unfolding little little_at
 bytes-again s b zero at i h = absurd (not-suc-le-zero h)
 bytes-again s b (suc n) at zero h = rw add-zero (omega (arith, b at))

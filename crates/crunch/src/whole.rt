@@ -1,5 +1,5 @@
 // The record put together, for those who want it whole.
-ghost use Rattle.crn_format.specs.Opening.{opening as «openingOf»};
+ghost use Rattle.crn_format.specs.Opening.{opening as opening_of};
 ghost use Rattle.crn_format.specs.Loading.{loading};
 ghost use Rattle.crn_formats.specs.Lent.{lent_of};
 ghost use Rattle.crn_opening.specs.Opens.{Opens};
@@ -85,7 +85,7 @@ pub fn open(
     alpha_endpoints: &mut [u16],
     alpha_selectors: &mut [u16],
 ) -> Opened
-    ensures { Opens («openingOf» file.now
+    ensures { Opens (opening_of file.now
         (lent_of color_endpoints.old color_selectors.old
         alpha_endpoints.old alpha_selectors.old))
         (lent_of color_endpoints.new color_selectors.new

@@ -21,6 +21,8 @@ pub palettes_fit : (h : Header) (lent : Palettes)
 unfolding room_for
 palettes_fit h lent a b c d =
     simp (
-      plane (ltb 0 h.color_endpoints.count) h.color_endpoints.count (length lent.color_ends) h.color_selectors.count (length lent.color_sels) a b,
-      plane (ltb 0 h.alpha_endpoints.count) h.alpha_endpoints.count (length lent.alpha_ends) (3 * h.alpha_selectors.count) (length lent.alpha_sels) c d,
+      plane (ltb 0 h.color_endpoints.count) h.color_endpoints.count (length lent.color_ends) h.color_selectors.count
+          (length lent.color_sels) a b,
+      plane (ltb 0 h.alpha_endpoints.count) h.alpha_endpoints.count (length lent.alpha_ends) (3 * h.alpha_selectors.count)
+          (length lent.alpha_sels) c d,
     )

@@ -1,6 +1,6 @@
 // A level unpacked, its answer as one struct; and several levels.
 ghost use Rattle.std.specs.Prelude.{◌≡◌};
-ghost use Rattle.crn_format.specs.Unpacking.{unpacking as «unpackingOf»};
+ghost use Rattle.crn_format.specs.Unpacking.{unpacking as unpacking_of};
 ghost use Rattle.crn_formats.specs.Lent.{lent_of};
 ghost use Rattle.crn_formats.specs.Records.{record_by};
 ghost use Rattle.crn_levels.specs.Several.{several_of, Gives};
@@ -66,7 +66,7 @@ pub extern "C" fn crunch_unpack_level_parts<'a>(
     budget: &mut u64,
     dst: &mut [u8],
 ) -> Answer
-    ensures { Answers («unpackingOf» (record_by header counts chunk.now color_ends.now color_sels.now alpha_ends.now alpha_sels.now) file.now (lent_of color_endpoints.now color_selectors.now alpha_endpoints.now alpha_selectors.now) level pitch distance budget.old dst.old) budget.old budget.new dst.new result }
+    ensures { Answers (unpacking_of (record_by header counts chunk.now color_ends.now color_sels.now alpha_ends.now alpha_sels.now) file.now (lent_of color_endpoints.now color_selectors.now alpha_endpoints.now alpha_selectors.now) level pitch distance budget.old dst.old) budget.old budget.new dst.new result }
 {
     flat(crunch::unpack_level_by(
         header,

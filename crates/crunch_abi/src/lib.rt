@@ -3,7 +3,7 @@
 #![tactic(auto)]
 
 ghost use Rattle.std.specs.Prelude.{◌≡◌};
-ghost use Rattle.crn_format.specs.Opening.{opening as «openingOf»};
+ghost use Rattle.crn_format.specs.Opening.{opening as opening_of};
 ghost use Rattle.crn_formats.specs.Lent.{lent_of};
 ghost use Rattle.crn_format.specs.Look.{look_at, look_of};
 ghost use Rattle.crn_opening.specs.Opens.{opened_by, Opens};
@@ -57,7 +57,7 @@ pub extern "C" fn crunch_open_parts(
     alpha_ends: &mut [u8; 8192],
     alpha_sels: &mut [u8; 8192],
 ) -> OpenedHeader
-    ensures { Opens («openingOf» file.now (lent_of color_endpoints.old color_selectors.old alpha_endpoints.old alpha_selectors.old)) (lent_of color_endpoints.new color_selectors.new alpha_endpoints.new alpha_selectors.new) (opened_by result chunk.new color_ends.new color_sels.new alpha_ends.new alpha_sels.new) }
+    ensures { Opens (opening_of file.now (lent_of color_endpoints.old color_selectors.old alpha_endpoints.old alpha_selectors.old)) (lent_of color_endpoints.new color_selectors.new alpha_endpoints.new alpha_selectors.new) (opened_by result chunk.new color_ends.new color_sels.new alpha_ends.new alpha_sels.new) }
 {
     crunch::open_into(
         file,

@@ -61,5 +61,9 @@ shown : (writing dds_of small (0 ∷ 0 ∷ []) palettes (replicate 172 7)
     × (writing dds_of small (0 ∷ 0 ∷ []) palettes (replicate 167 7) ≡ refused (early 12) (replicate 167 7))
     × (writing dds_of small (0 ∷ []) palettes (replicate 172 7)
     ≡ refused (record { refusal = 4; level = 1; bit = 0; symbols = 6 }) (replicate 168 0 ++ replicate 4 7))
-unfolding head writing put_from onward finished dds_header header_words words_of surface chain_to level_sizes spelled below used first_code longest_up_to room all_fit nth seek next then run of_drawn served from_bits charged budgeted endpoint_index selector_index endpoint_indices plane_endpoints plane_selectors position_selectors tile_counts tile_map encoding last_or lasts last_row chunk chunks level inside insides little half halves nth_list block_of chunk_at block_at row_painted face_painted painted row_cutouts face_cutouts cutouts kind_of within_limits tables_hold level_stands palettes_reach grid_of per_plane cutout_count ended drawn_level unpacking
+unfolding head writing put_from onward finished dds_header header_words words_of surface chain_to level_sizes spelled below used first_code
+    longest_up_to room all_fit nth seek next then run of_drawn served from_bits charged budgeted endpoint_index selector_index
+    endpoint_indices plane_endpoints plane_selectors position_selectors tile_counts tile_map encoding last_or lasts last_row chunk chunks
+    level inside insides little half halves nth_list block_of chunk_at block_at row_painted face_painted painted row_cutouts face_cutouts
+    cutouts kind_of within_limits tables_hold level_stands palettes_reach grid_of per_plane cutout_count ended drawn_level unpacking
 shown = (refl, refl, refl)

@@ -4,7 +4,7 @@ ghost use Rattle.std.proofs.lemmas.List.Edits.{sets};
 ghost use Rattle.crn_format.specs.Header.{within_limits, kind_of};
 ghost use Rattle.picture.specs.Kinds.{goes_out};
 ghost use Rattle.picture.specs.Surfaces.{picture_of};
-ghost use Rattle.dds.specs.Header.{letters, caps as «capsOf», caps2 as «caps2Of», head_bytes, dds_header};
+ghost use Rattle.dds.specs.Header.{letters, caps as caps_of, caps2 as caps2_of, head_bytes, dds_header};
 
 use crn_format::Header;
 use crn_sizes::level_sizes;
@@ -25,7 +25,7 @@ fn letters_of(format: u32) -> u32
 
 // A texture; a mip map where there are levels below the first; complex where there is more than one surface.
 fn caps_of(h: Header) -> u32
-    ensures { result ≡ «capsOf» (picture_of h) }
+    ensures { result ≡ caps_of (picture_of h) }
 {
     if 1 < h.levels {
         return 0x401008;
@@ -38,7 +38,7 @@ fn caps_of(h: Header) -> u32
 
 // A cube map, with each of its faces.
 fn caps2_of(h: Header) -> u32
-    ensures { result ≡ «caps2Of» (picture_of h) }
+    ensures { result ≡ caps2_of (picture_of h) }
 {
     if h.faces == 6 { 0xFE00 } else { 0 }
 }

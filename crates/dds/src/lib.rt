@@ -5,7 +5,7 @@ ghost use Rattle.std.specs.Prelude.{◌≡◌, true, ◌+◌, ◌*◌};
 ghost use Rattle.crn_format.specs.Header.{within_limits};
 ghost use Rattle.crn_formats.specs.Lent.{lent_of};
 ghost use Rattle.crn_formats.specs.Records.{record_by};
-ghost use Rattle.picture.specs.Surfaces.{picture_of, chain as «chainOf»};
+ghost use Rattle.picture.specs.Surfaces.{picture_of, chain as chain_of};
 ghost use Rattle.picture.specs.Writing.{early, writing};
 ghost use Rattle.picture.specs.Answers.{stopped_by, Writes, needed_for};
 ghost use Rattle.dds.specs.Header.{head_bytes, dds_of};
@@ -23,7 +23,7 @@ mod header; // the magic and the header
 // Of a header within the limits, whose levels of one face have `chain` bytes.
 fn total_of(h: Header, chain: usize) -> usize
     requires within_limits { within_limits h ≡ true }
-    requires chain_same { chain ≡ «chainOf» (picture_of h) }
+    requires chain_same { chain ≡ chain_of (picture_of h) }
     ensures { result ≡ head_bytes + h.faces * chain }
 {
     128 + h.faces as usize * chain

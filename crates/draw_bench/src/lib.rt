@@ -3,7 +3,7 @@
 
 ghost use Rattle.std.specs.Prelude.{◌≡◌};
 ghost use Rattle.crn_symbol_codec.specs.Decoders.{Decodes};
-ghost use Rattle.draw_bench.specs.Tally.{total as «total_of», sum_of_draws as «sum_of_draws»};
+ghost use Rattle.draw_bench.specs.Tally.{total as total_of, sum_of_draws as sum_of_draws};
 
 use crn_symbol_codec::Taken;
 
@@ -16,7 +16,7 @@ fn wide(x: u32) -> u64
 // The lengths are there for the contract alone.
 fn total(lengths: &[u8], lookup: &[u32], sorted: &[u16], seg: &[u8], n: usize) -> u64
     requires { Decodes lengths.now lookup.now sorted.now }
-    ensures { result ≡ «total_of» lengths.now seg.now n }
+    ensures { result ≡ total_of lengths.now seg.now n }
 {
     let mut c = crn_symbol_codec::start(seg);
     let mut sum: u64 = 0;
@@ -36,7 +36,7 @@ fn total(lengths: &[u8], lookup: &[u32], sorted: &[u16], seg: &[u8], n: usize) -
 // The sum of n symbols drawn from the segment, modulo 2^64; 0 where the lengths make no code or a draw fails.
 #[unsafe(no_mangle)]
 pub extern "C" fn sum_of_draws(lengths: &[u8], seg: &[u8], n: usize) -> u64
-    ensures { result ≡ «sum_of_draws» lengths.now seg.now n }
+    ensures { result ≡ sum_of_draws lengths.now seg.now n }
 {
     if 8192 < lengths.len() {
         return 0;

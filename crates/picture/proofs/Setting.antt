@@ -28,7 +28,8 @@ one_word d ws at i h =
     rw (more, sets-append (words_of (take i ws)) (little 4 (get_or ws i 0)) d at, long)
 
 -- one byte more
-pub one_byte : (d bs : List ℕ) (at i : ℕ) → i < length bs → set (sets d at (take i bs)) (at + i) (get_or bs i 0) ≡ sets d at (take (i + 1) bs)
+pub one_byte : (d bs : List ℕ) (at i : ℕ) → i < length bs → set (sets d at (take i bs)) (at + i) (get_or bs i 0) ≡ sets d at
+    (take (i + 1) bs)
 one_byte d bs at i h =
     let long : length (take i bs) ≡ i = length-take-le i bs (omega arith) in
     rw (add-one, take-suc bs i 0 h, sets-append (take i bs) (get_or bs i 0 ∷ []) d at, long)

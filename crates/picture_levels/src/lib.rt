@@ -10,7 +10,7 @@ ghost use Rattle.crn_formats.specs.Lent.{lent_of};
 ghost use Rattle.crn_formats.specs.Records.{tables_by, record_by};
 ghost use Rattle.crn_decoders.specs.Tables.{AllFair, Able};
 ghost use Rattle.crn_drawing.specs.Levels.{Made, Tabled, record_with};
-ghost use Rattle.picture.specs.Surfaces.{picture_of, chain as «chainOf», by_face};
+ghost use Rattle.picture.specs.Surfaces.{picture_of, chain as chain_of, by_face};
 ghost use Rattle.picture.specs.Writing.{nothing, put_from};
 ghost use Rattle.picture_levels.specs.Puts.{refused_by, Puts};
 
@@ -90,7 +90,7 @@ fn put_by_face(
     dst: &mut [u8],
 ) -> LevelsPut
     requires tabled { Tabled h s lookup.now sorted.now }
-    requires step_same { step ≡ «chainOf» (picture_of h) }
+    requires step_same { step ≡ chain_of (picture_of h) }
     requires room { head + h.faces * step ≤ length dst.old }
     ensures { (t : Tables) → Made (record_with h t) s lookup.now sorted.now
         → Puts (put_from h.levels (by_face head (picture_of h)) (record_with h t) file.now
@@ -165,7 +165,7 @@ fn put_in<'a>(
     requires tables_hold { tables_hold (tables_by counts chunk.now color_ends.now color_sels.now alpha_ends.now alpha_sels.now) ≡ true }
     requires all_fair { AllFair counts chunk.now color_ends.now color_sels.now alpha_ends.now alpha_sels.now s.sorted_step }
     requires able { Able s (length lookup.old) (length sorted.old) }
-    requires chain_same { chain ≡ «chainOf» (picture_of h) }
+    requires chain_same { chain ≡ chain_of (picture_of h) }
     requires room { head + h.faces * chain ≤ length dst.old }
     ensures { Puts (put_from h.levels (by_face head (picture_of h))
         (record_by h counts chunk.now color_ends.now color_sels.now alpha_ends.now
@@ -223,7 +223,7 @@ pub fn put_levels<'a>(
 ) -> LevelsPut
     requires within_limits { within_limits h ≡ true }
     requires tables_hold { tables_hold (tables_by counts chunk.now color_ends.now color_sels.now alpha_ends.now alpha_sels.now) ≡ true }
-    requires chain_same { chain ≡ «chainOf» (picture_of h) }
+    requires chain_same { chain ≡ chain_of (picture_of h) }
     requires room { head + h.faces * chain ≤ length dst.old }
     ensures { Puts (put_from h.levels (by_face head (picture_of h))
         (record_by h counts chunk.now color_ends.now color_sels.now alpha_ends.now

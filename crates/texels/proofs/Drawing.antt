@@ -80,7 +80,8 @@ stretched {s} {value} {x} {y} {n} {t} d {e} bytes p is long fits put each =
     inside : (x' : ℕ) → x / 4 ≡ x' / 4 → x' < s.width → x' - x < n
     inside x' same h = ⊎_elim (λ four. omega (arith, p.start)) (λ last. omega (arith, p.start)) p.whole
 
-    there : (x' y' i : ℕ) → In s x' y' → i < 4 → t ≤ stretch s x' y' → stretch s x' y' < t + 1 → get_or e (texel_place s x' y' + i) 0 ≡ get_or
+    there : (x' y' i : ℕ) → In s x' y' → i < 4 → t ≤ stretch s x' y' → stretch s x' y' < t + 1 → get_or e (texel_place s x' y' + i) 0 ≡
+        get_or
         (value x' y') i 0
     there x' y' i at h from to =
         let same = tells s x y x' y' p.some at.column (omega (arith, is)) in
@@ -89,7 +90,8 @@ stretched {s} {value} {x} {y} {n} {t} d {e} bytes p is long fits put each =
         let so : texel_place s x' y' + i ≡ texel_place s x y + (4 * (x' - x) + i) = omega
         (arith, on, ap (λ (k : ℕ). k * s.pitch) same.1) in
         let first : get_or e (texel_place s x y + (4 * (x' - x) + i)) 0 ≡ get_or (value (x + (x' - x)) y) i 0 =
-        rw put (sets_in bytes d (texel_place s x y) (4 * (x' - x) + i) (omega (arith, long)) (omega (arith, long)) ∙ each (x' - x) i lt h) in
+        rw put (sets_in bytes d (texel_place s x y) (4 * (x' - x) + i) (omega (arith, long)) (omega (arith, long)) ∙ each (x' - x) i lt h)
+        in
         ap (λ (k : ℕ). get_or e k 0) so ∙ first ∙ ap₂ (λ (u v : ℕ). get_or (value u v) i 0) on same.1
 
     elsewhere : (k : ℕ) → ((x' y' : ℕ) → In s x' y' → t ≤ stretch s x' y' → stretch s x' y' < t + 1 → Within s x' y' k → ⊥)

@@ -69,7 +69,8 @@ module _ (s : Face) (value : ℕ → ℕ → List ℕ) where
           let at' : In s x' y = record { column = in_row; row = at.row } in
           texel-kept (row_drawn s value y x' d) (texel_place s x y + i) (λ w. omega (arith, (same at' w).0)))
 
-      pub drawn-there : (d : List ℕ) → length d ≡ room → get_or (drawn s value s.height d) (texel_place s x y + i) 0 ≡ get_or (value x y) i 0
+      pub drawn-there : (d : List ℕ) → length d ≡ room → get_or (drawn s value s.height d) (texel_place s x y + i) 0 ≡ get_or (value x y) i
+          0
       unfolding drawn
       drawn-there d long =
           made_once (λ y'. get_or (drawn s value y' d) (texel_place s x y + i) 0) s.height y (get_or (value x y) i 0) at.row

@@ -2,7 +2,7 @@
 ghost use Rattle.std.specs.Prelude.{◌≡◌, ◌+◌, ◌*◌, ◌≤◌, ◌<◌, min, leb, length};
 ghost use Rattle.crn_format.specs.Choice.{both};
 ghost use Rattle.crn_format.specs.Limits.{max_side};
-ghost use Rattle.crn_format.specs.Grid.{blocks as «blocksOf»};
+ghost use Rattle.crn_format.specs.Grid.{blocks as blocks_of};
 ghost use Rattle.crn_format.specs.Header.{kind_of};
 ghost use Rattle.bcn_format.specs.Picture.{rgba};
 ghost use Rattle.bcn_rows.specs.Rows.{texel_of, texel_at};
@@ -103,7 +103,7 @@ fn block(format: u32, dst: &mut [u8], blocks: &[u8], s: Face, x: usize, y: usize
 
 fn line(format: u32, dst: &mut [u8], blocks: &[u8], s: Face, y: usize)
     requires room { Room s (length dst.old) }
-    requires y_in { y < «blocksOf» s.height }
+    requires y_in { y < blocks_of s.height }
     requires given { Given format s (length blocks.now) }
     ensures { Drawn s (rgba (kind_of format) s blocks.now) (first s 0 y) (first s 0 (y + 1))
         dst.old dst.new }
@@ -119,7 +119,7 @@ fn line(format: u32, dst: &mut [u8], blocks: &[u8], s: Face, y: usize)
 pub fn face(format: u32, dst: &mut [u8], blocks: &[u8], s: Face)
     requires room { Room s (length dst.old) }
     requires given { Given format s (length blocks.now) }
-    ensures { Drawn s (rgba (kind_of format) s blocks.now) 0 (first s 0 («blocksOf» s.height))
+    ensures { Drawn s (rgba (kind_of format) s blocks.now) 0 (first s 0 (blocks_of s.height))
         dst.old dst.new }
 {
     let rows = (s.height + 3) / 4;

@@ -120,7 +120,8 @@ block-requires c =
         c.requires.placeable.bytes,
       );
       filled
-          = subst (λ (k : ℕ). Filled ((lent_of c.args.cends.now c.args.csels.now c.args.aends.now c.args.asels.now)) c.args.ps c.args.out.now
+          = subst (λ (k : ℕ). Filled ((lent_of c.args.cends.now c.args.csels.now c.args.aends.now c.args.asels.now)) c.args.ps
+          c.args.out.now
           k q) (sym (c.tiles-tiles.ensures.each q t)) f;
     }
 

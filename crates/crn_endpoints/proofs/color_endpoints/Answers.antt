@@ -18,8 +18,17 @@ slice_bounds-build_decoder-end c = sym (table-codes c.receive_lengths.ensures c.
 pub build_decoder-requires : goal.build_decoder-requires
 build_decoder-requires c = record {
   codes = table-codes c.receive_lengths.ensures c.in-Table.is;
-  tables_fit =
-      (search rules, search rules, search rules, omega (arith, (few_fit _ _ _ c.few.ensures c.if-few.true).0, length-replicate {A = ℕ} 256 0));
+  tables_fit = (
+    search rules,
+    search rules,
+    search rules,
+    omega (
+      arith,
+      (few_fit _ _ _ c.few.ensures c.if-few.true).0,
+      length-replicate {A = ℕ} 256
+          0,
+    ),
+  );
 }
 
 pub slice_bounds-build_decoder-end-then-few-3 : goal.slice_bounds-build_decoder-end-then-few-3

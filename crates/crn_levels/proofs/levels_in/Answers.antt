@@ -17,7 +17,8 @@ levels_by-requires c = record {
         within = c.requires.within_limits;
         tables = c.requires.tables_hold;
         able = able-kept c.requires.able c.make_tables.auto.lookup c.make_tables.auto.sorted;
-        coded = ready_by ((record_by c.args.h c.args.counts c.args.chunk.now c.args.color_ends.now c.args.color_sels.now c.args.alpha_ends.now
+        coded = ready_by ((record_by c.args.h c.args.counts c.args.chunk.now c.args.color_ends.now c.args.color_sels.now
+            c.args.alpha_ends.now
             c.args.alpha_sels.now)) c.has_color.ensures c.has_alpha.ensures refl c.make_tables.ensures;
       }) in it);
 }

@@ -17,7 +17,8 @@ overflow_mul-distance c = omega (
   (let it : c.args.rows * (c.args.columns * c.args.block_bytes) ≤ 65536 * (65536 * 256) =
       (mul-le-mul {n₂ = 65536} (omega (arith, c.ranges.rows.fits))
       ((let it : c.args.columns * c.args.block_bytes ≤ 65536 * 256 =
-      (mul-le-mul {n₂ = 65536} {m₂ = 256} (omega (arith, c.ranges.columns.fits)) (omega (arith, c.ranges.block_bytes.fits))) in it))) in it),
+      (mul-le-mul {n₂ = 65536} {m₂ = 256} (omega (arith, c.ranges.columns.fits)) (omega (arith, c.ranges.block_bytes.fits))) in it))) in
+      it),
 )
 
 pub overflow_mul-chunks : goal.overflow_mul-chunks
@@ -44,7 +45,8 @@ overflow_mul-result c = omega (
       ((let it : c.args.rows * (c.args.columns * c.args.block_bytes) ≤ 65536 * (65536 * 256) =
       (mul-le-mul {n₂ = 65536} (omega (arith, c.ranges.rows.fits))
       ((let it : c.args.columns * c.args.block_bytes ≤ 65536 * 256 =
-      (mul-le-mul {n₂ = 65536} {m₂ = 256} (omega (arith, c.ranges.columns.fits)) (omega (arith, c.ranges.block_bytes.fits))) in it))) in it)))
+      (mul-le-mul {n₂ = 65536} {m₂ = 256} (omega (arith, c.ranges.columns.fits)) (omega (arith, c.ranges.block_bytes.fits))) in it))) in
+      it)))
       in it),
 )
 

@@ -9,10 +9,10 @@ draw_with-requires c =
     let z : Sized c.args.counts c.sizes_for-s.result = sized _ _ _ c.sizes_for-s.ensures in
     record {
       checked = c.requires.checked;
-      all_fair = all_fair ((tables_by c.args.counts c.args.chunk.now c.args.«color_ends».now
-          c.args.«color_sels».now c.args.«alpha_ends».now c.args.«alpha_sels».now)) _ c.requires.long c.requires.checked.tables
-          (z.room (at_most ((tables_by c.args.counts c.args.chunk.now c.args.«color_ends».now c.args.«color_sels».now c.args.«alpha_ends».now
-          c.args.«alpha_sels».now)) c.requires.checked.tables));
+      all_fair = all_fair ((tables_by c.args.counts c.args.chunk.now c.args.color_ends.now
+          c.args.color_sels.now c.args.alpha_ends.now c.args.alpha_sels.now)) _ c.requires.long c.requires.checked.tables
+          (z.room (at_most ((tables_by c.args.counts c.args.chunk.now c.args.color_ends.now c.args.color_sels.now c.args.alpha_ends.now
+          c.args.alpha_sels.now)) c.requires.checked.tables));
       able = able_in 288 1024 z c.if-s-le288.true c.if-s-le1024.true;
     }
 
@@ -21,10 +21,10 @@ draw_with-requires-then-s-le1024 c =
     let z : Sized c.args.counts c.sizes_for-s.result = sized _ _ _ c.sizes_for-s.ensures in
     record {
       checked = c.requires.checked;
-      all_fair = all_fair ((tables_by c.args.counts c.args.chunk.now c.args.«color_ends».now
-          c.args.«color_sels».now c.args.«alpha_ends».now c.args.«alpha_sels».now)) _ c.requires.long c.requires.checked.tables
-          (z.room (at_most ((tables_by c.args.counts c.args.chunk.now c.args.«color_ends».now c.args.«color_sels».now c.args.«alpha_ends».now
-          c.args.«alpha_sels».now)) c.requires.checked.tables));
+      all_fair = all_fair ((tables_by c.args.counts c.args.chunk.now c.args.color_ends.now
+          c.args.color_sels.now c.args.alpha_ends.now c.args.alpha_sels.now)) _ c.requires.long c.requires.checked.tables
+          (z.room (at_most ((tables_by c.args.counts c.args.chunk.now c.args.color_ends.now c.args.color_sels.now c.args.alpha_ends.now
+          c.args.alpha_sels.now)) c.requires.checked.tables));
       able = able_in 2080 1024 z (z.fewer c.if-s-le1024.true) c.if-s-le1024.true;
     }
 
@@ -33,9 +33,9 @@ draw_with-requires-2 c =
     let z : Sized c.args.counts c.sizes_for-s.result = sized _ _ _ c.sizes_for-s.ensures in
     record {
       checked = c.requires.checked;
-      all_fair = all_fair ((tables_by c.args.counts c.args.chunk.now c.args.«color_ends».now
-          c.args.«color_sels».now c.args.«alpha_ends».now c.args.«alpha_sels».now)) _ c.requires.long c.requires.checked.tables
-          (z.room (at_most ((tables_by c.args.counts c.args.chunk.now c.args.«color_ends».now c.args.«color_sels».now c.args.«alpha_ends».now
-          c.args.«alpha_sels».now)) c.requires.checked.tables));
+      all_fair = all_fair ((tables_by c.args.counts c.args.chunk.now c.args.color_ends.now
+          c.args.color_sels.now c.args.alpha_ends.now c.args.alpha_sels.now)) _ c.requires.long c.requires.checked.tables
+          (z.room (at_most ((tables_by c.args.counts c.args.chunk.now c.args.color_ends.now c.args.color_sels.now c.args.alpha_ends.now
+          c.args.alpha_sels.now)) c.requires.checked.tables));
       able = able_in 4128 8192 z z.words z.symbols;
     }

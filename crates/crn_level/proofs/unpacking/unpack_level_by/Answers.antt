@@ -7,31 +7,32 @@ use borrow.Author.Rules.{rules}
 use Rattle.crn_level.proofs.unpacking.unpack_level_by.Goals as goal
 
 pub returns-then-number-ne0 : goal.returns-then-number-ne0
-returns-then-number-ne0 c = refused-before ((record_by c.args.header c.args.counts c.args.chunk.now c.args.«color_ends».now
-    c.args.«color_sels».now c.args.«alpha_ends».now
-    c.args.«alpha_sels».now)) _ _ _ _ _ _ _ c.tables_hold-tables.ensures c.refusal-number.ensures c.if-number-ne0.true
+returns-then-number-ne0 c = refused-before ((record_by c.args.header c.args.counts c.args.chunk.now c.args.color_ends.now
+    c.args.color_sels.now c.args.alpha_ends.now
+    c.args.alpha_sels.now)) _ _ _ _ _ _ _ c.tables_hold-tables.ensures c.refusal-number.ensures c.if-number-ne0.true
 
 pub segment_of-requires : goal.segment_of-requires
 segment_of-requires c =
-    stands_so ((record_by c.args.header c.args.counts c.args.chunk.now c.args.«color_ends».now c.args.«color_sels».now
-    c.args.«alpha_ends».now
-    c.args.«alpha_sels».now)) _ _ _ _ _ (length c.args.dst.now) c.tables_hold-tables.ensures c.refusal-number.ensures c.if-number-ne0.false
+    stands_so ((record_by c.args.header c.args.counts c.args.chunk.now c.args.color_ends.now c.args.color_sels.now
+    c.args.alpha_ends.now
+    c.args.alpha_sels.now)) _ _ _ _ _ (length c.args.dst.now) c.tables_hold-tables.ensures c.refusal-number.ensures c.if-number-ne0.false
 
 pub draw_level-requires : goal.draw_level-requires
 draw_level-requires c =
     record {
-      checked = all-checked ((record_by c.args.header c.args.counts c.args.chunk.now c.args.«color_ends».now c.args.«color_sels».now
-          c.args.«alpha_ends».now
-          c.args.«alpha_sels».now)) _ _ _ _ _ (length c.args.dst.now) c.tables_hold-tables.ensures c.refusal-number.ensures c.if-number-ne0.false
+      checked = all-checked ((record_by c.args.header c.args.counts c.args.chunk.now c.args.color_ends.now c.args.color_sels.now
+          c.args.alpha_ends.now
+          c.args.alpha_sels.now)) _ _ _ _ _ (length c.args.dst.now) c.tables_hold-tables.ensures c.refusal-number.ensures
+          c.if-number-ne0.false
           c.segment_of.ensures.1 c.grid_of-g.ensures;
       long = (let it : Long
-          ((record_by c.args.header c.args.counts c.args.chunk.now c.args.«color_ends».now c.args.«color_sels».now c.args.«alpha_ends».now
-          c.args.«alpha_sels».now)).tables = (search rules) in it);
+          ((record_by c.args.header c.args.counts c.args.chunk.now c.args.color_ends.now c.args.color_sels.now c.args.alpha_ends.now
+          c.args.alpha_sels.now)).tables = (search rules) in it);
     }
 
 pub returns : goal.returns
 returns c =
-    then-level ((record_by c.args.header c.args.counts c.args.chunk.now c.args.«color_ends».now c.args.«color_sels».now
-    c.args.«alpha_ends».now
-    c.args.«alpha_sels».now)) _ _ _ _ _ _ _ c.tables_hold-tables.ensures c.refusal-number.ensures c.if-number-ne0.false
+    then-level ((record_by c.args.header c.args.counts c.args.chunk.now c.args.color_ends.now c.args.color_sels.now
+    c.args.alpha_ends.now
+    c.args.alpha_sels.now)) _ _ _ _ _ _ _ c.tables_hold-tables.ensures c.refusal-number.ensures c.if-number-ne0.false
     c.segment_of.ensures.0 c.grid_of-g.ensures c.draw_level.ensures

@@ -11,7 +11,8 @@ pub overflow_cast-linear : goal.overflow_cast-linear
 overflow_cast-linear c = omega (
   arith,
   (let it : c.level_sizes-linear.result.distance ≡ surface (picture_of c.args.h) 0 =
-      (distance_so c.args.h c.requires.within_limits 0 (limited c.args.h c.requires.within_limits).level c.level_sizes-linear.ensures) in it),
+      (distance_so c.args.h c.requires.within_limits 0 (limited c.args.h c.requires.within_limits).level c.level_sizes-linear.ensures) in
+      it),
   surface-few c.args.h c.requires.within_limits 0,
 )
 
