@@ -49,8 +49,10 @@ loop-x-preserved c =
     )
 
 pub shape_of-dst : goal.shape_of-dst
-shape_of-dst c = (let it : length c.loop-x.dst ≡ length c.args.dst.now =
-    (let a = c.args in ap length c.loop-x.invariant.1 ∙ row-length a.g (blank a.g) a.face a.y c.loop-x.x a.dst.now) in it)
+shape_of-dst c =
+    let long : length c.loop-x.dst ≡ length c.args.dst.now = let a = c.args in ap length c.loop-x.invariant.1 ∙ row-length a.g (blank a.g)
+    a.face a.y c.loop-x.x a.dst.now in
+    long
 
 pub returns : goal.returns
 returns c =

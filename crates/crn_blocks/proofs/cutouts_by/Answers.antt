@@ -22,28 +22,36 @@ unfolding row_cutouts
 loop-x-init c = let a = c.args in ((omega arith, place-first a.g a.face a.y), (refl, omega arith))
 
 pub pair-requires : goal.pair-requires
-pair-requires c = let l : Lies c.args.g c.args.face c.loop-x.x c.args.y (length c.args.dst.now) = lies c.requires.room
-    ((let it : In c.args.g c.args.face c.loop-x.x c.args.y = (record
-    { face = c.requires.face_in; column = c.loop-x-test.true; row = c.requires.y_in }) in it)) in omega (arith, c.loop-x.invariant.0.1)
+pair-requires c =
+    let here : In c.args.g c.args.face c.loop-x.x c.args.y = record
+    { face = c.requires.face_in; column = c.loop-x-test.true; row = c.requires.y_in } in
+    let l : Lies c.args.g c.args.face c.loop-x.x c.args.y (length c.args.dst.now) = lies c.requires.room
+    here in omega (arith, c.loop-x.invariant.0.1)
 
 pub overflow_add-at-in-loop-x : goal.overflow_add-at-in-loop-x
-overflow_add-at-in-loop-x c = let l : Lies c.args.g c.args.face c.loop-x.x c.args.y (length c.args.dst.now) = lies c.requires.room
-    ((let it : In c.args.g c.args.face c.loop-x.x c.args.y = (record
-    { face = c.requires.face_in; column = c.loop-x-test.true; row = c.requires.y_in }) in it)) in omega
+overflow_add-at-in-loop-x c =
+    let here : In c.args.g c.args.face c.loop-x.x c.args.y = record
+    { face = c.requires.face_in; column = c.loop-x-test.true; row = c.requires.y_in } in
+    let l : Lies c.args.g c.args.face c.loop-x.x c.args.y (length c.args.dst.now) = lies c.requires.room
+    here in omega
     (arith, c.loop-x.invariant.0.1, c.well_formed.0.0)
 
 pub pair-requires-in-loop-x : goal.pair-requires-in-loop-x
-pair-requires-in-loop-x c = let l : Lies c.args.g c.args.face c.loop-x.x c.args.y (length c.args.dst.now) = lies c.requires.room
-    ((let it : In c.args.g c.args.face c.loop-x.x c.args.y = (record
-    { face = c.requires.face_in; column = c.loop-x-test.true; row = c.requires.y_in }) in it)) in omega (arith, c.loop-x.invariant.0.1)
+pair-requires-in-loop-x c =
+    let here : In c.args.g c.args.face c.loop-x.x c.args.y = record
+    { face = c.requires.face_in; column = c.loop-x-test.true; row = c.requires.y_in } in
+    let l : Lies c.args.g c.args.face c.loop-x.x c.args.y (length c.args.dst.now) = lies c.requires.room
+    here in omega (arith, c.loop-x.invariant.0.1)
 
 pub overflow_add-n : goal.overflow_add-n
 overflow_add-n c = omega (arith, c.loop-x.invariant.1.1, c.loop-x-test.true, c.requires.room.few_columns)
 
 pub overflow_add-at-in-loop-x-2 : goal.overflow_add-at-in-loop-x-2
-overflow_add-at-in-loop-x-2 c = let l : Lies c.args.g c.args.face c.loop-x.x c.args.y (length c.args.dst.now) = lies c.requires.room
-    ((let it : In c.args.g c.args.face c.loop-x.x c.args.y = (record
-    { face = c.requires.face_in; column = c.loop-x-test.true; row = c.requires.y_in }) in it)) in omega
+overflow_add-at-in-loop-x-2 c =
+    let here : In c.args.g c.args.face c.loop-x.x c.args.y = record
+    { face = c.requires.face_in; column = c.loop-x-test.true; row = c.requires.y_in } in
+    let l : Lies c.args.g c.args.face c.loop-x.x c.args.y (length c.args.dst.now) = lies c.requires.room
+    here in omega
     (arith, c.loop-x.invariant.0.1, c.well_formed.0.0, c.requires.bytes_same)
 
 pub overflow_add-x : goal.overflow_add-x

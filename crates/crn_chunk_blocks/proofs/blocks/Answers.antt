@@ -42,63 +42,58 @@ pub loop-q-init : goal.loop-q-init
 loop-q-init c = (omega arith, until (omega arith) start)
 
 pub overflow_mul-at : goal.overflow_mul-at
-overflow_mul-at c = let l : Lies c.args.g c.args.face (2 * c.args.cx + c.loop-q.q % 2) (2 * c.args.cy + c.loop-q.q / 2)
+overflow_mul-at c =
+    let placed : (c.args.face * c.args.g.distance + 2 * c.args.cy * c.args.g.pitch + 2 * c.args.cx * c.args.g.bytes + c.loop-q.q / 2 *
+    c.args.g.pitch + c.loop-q.q % 2 * c.args.g.bytes ≡ place_of c.args.g c.args.face (2 * c.args.cx + c.loop-q.q % 2)
+    (2 * c.args.cy + c.loop-q.q / 2)) = let a = c.args in place_by a.g a.face a.cx a.cy c.loop-q.q in
+    let l : Lies c.args.g c.args.face (2 * c.args.cx + c.loop-q.q % 2) (2 * c.args.cy + c.loop-q.q / 2)
     (length c.args.dst.now) = lies c.requires.placeable.room ((let it : In c.args.g c.args.face (2 * c.args.cx + c.loop-q.q % 2)
     (2 * c.args.cy + c.loop-q.q / 2) = (let a = c.args in
-    in_grid a.g a.face a.cx a.cy c.loop-q.q a.right a.bottom c.requires.covered c.loop-q-test.true c.requires.sides c.if-right-q.true) in
-    it)) in omega (
-      arith,
-      (let it : (c.args.face * c.args.g.distance + 2 * c.args.cy * c.args.g.pitch + 2 * c.args.cx * c.args.g.bytes
-          + c.loop-q.q / 2 * c.args.g.pitch + c.loop-q.q % 2 * c.args.g.bytes
-          ≡ place_of c.args.g c.args.face (2 * c.args.cx + c.loop-q.q % 2) (2 * c.args.cy + c.loop-q.q / 2)) =
-          (let a = c.args in place_by a.g a.face a.cx a.cy c.loop-q.q) in it),
-      c.well_formed.0.0,
-    )
+    in_grid a.g a.face a.cx a.cy c.loop-q.q a.right a.bottom c.requires.covered c.loop-q-test.true c.requires.sides c.if-right-q.true)
+    in
+    it)) in omega (arith, placed, c.well_formed.0.0)
 
 pub overflow_add-at : goal.overflow_add-at
-overflow_add-at c = let l : Lies c.args.g c.args.face (2 * c.args.cx + c.loop-q.q % 2) (2 * c.args.cy + c.loop-q.q / 2)
+overflow_add-at c =
+    let placed : (c.args.face * c.args.g.distance + 2 * c.args.cy * c.args.g.pitch + 2 * c.args.cx * c.args.g.bytes + c.loop-q.q / 2 *
+    c.args.g.pitch + c.loop-q.q % 2 * c.args.g.bytes ≡ place_of c.args.g c.args.face (2 * c.args.cx + c.loop-q.q % 2)
+    (2 * c.args.cy + c.loop-q.q / 2)) = let a = c.args in place_by a.g a.face a.cx a.cy c.loop-q.q in
+    let l : Lies c.args.g c.args.face (2 * c.args.cx + c.loop-q.q % 2) (2 * c.args.cy + c.loop-q.q / 2)
     (length c.args.dst.now) = lies c.requires.placeable.room ((let it : In c.args.g c.args.face (2 * c.args.cx + c.loop-q.q % 2)
     (2 * c.args.cy + c.loop-q.q / 2) = (let a = c.args in
-    in_grid a.g a.face a.cx a.cy c.loop-q.q a.right a.bottom c.requires.covered c.loop-q-test.true c.requires.sides c.if-right-q.true) in
-    it)) in omega (
-      arith,
-      (let it : (c.args.face * c.args.g.distance + 2 * c.args.cy * c.args.g.pitch + 2 * c.args.cx * c.args.g.bytes
-          + c.loop-q.q / 2 * c.args.g.pitch + c.loop-q.q % 2 * c.args.g.bytes
-          ≡ place_of c.args.g c.args.face (2 * c.args.cx + c.loop-q.q % 2) (2 * c.args.cy + c.loop-q.q / 2)) =
-          (let a = c.args in place_by a.g a.face a.cx a.cy c.loop-q.q) in it),
-      c.well_formed.0.0,
-    )
+    in_grid a.g a.face a.cx a.cy c.loop-q.q a.right a.bottom c.requires.covered c.loop-q-test.true c.requires.sides c.if-right-q.true)
+    in
+    it)) in omega (arith, placed, c.well_formed.0.0)
 
 pub overflow_mul-at-then-right-q : goal.overflow_mul-at-then-right-q
-overflow_mul-at-then-right-q c = let l : Lies c.args.g c.args.face (2 * c.args.cx + c.loop-q.q % 2) (2 * c.args.cy + c.loop-q.q / 2)
+overflow_mul-at-then-right-q c =
+    let placed : (c.args.face * c.args.g.distance + 2 * c.args.cy * c.args.g.pitch + 2 * c.args.cx * c.args.g.bytes + c.loop-q.q / 2 *
+    c.args.g.pitch + c.loop-q.q % 2 * c.args.g.bytes ≡ place_of c.args.g c.args.face (2 * c.args.cx + c.loop-q.q % 2)
+    (2 * c.args.cy + c.loop-q.q / 2)) = let a = c.args in place_by a.g a.face a.cx a.cy c.loop-q.q in
+    let l : Lies c.args.g c.args.face (2 * c.args.cx + c.loop-q.q % 2) (2 * c.args.cy + c.loop-q.q / 2)
     (length c.args.dst.now) = lies c.requires.placeable.room ((let it : In c.args.g c.args.face (2 * c.args.cx + c.loop-q.q % 2)
     (2 * c.args.cy + c.loop-q.q / 2) = (let a = c.args in
-    in_grid a.g a.face a.cx a.cy c.loop-q.q a.right a.bottom c.requires.covered c.loop-q-test.true c.requires.sides c.if-right-q.true) in
-    it)) in omega (
-      arith,
-      (let it : (c.args.face * c.args.g.distance + 2 * c.args.cy * c.args.g.pitch + 2 * c.args.cx * c.args.g.bytes
-          + c.loop-q.q / 2 * c.args.g.pitch + c.loop-q.q % 2 * c.args.g.bytes
-          ≡ place_of c.args.g c.args.face (2 * c.args.cx + c.loop-q.q % 2) (2 * c.args.cy + c.loop-q.q / 2)) =
-          (let a = c.args in place_by a.g a.face a.cx a.cy c.loop-q.q) in it),
-      c.well_formed.0.0,
-    )
+    in_grid a.g a.face a.cx a.cy c.loop-q.q a.right a.bottom c.requires.covered c.loop-q-test.true c.requires.sides c.if-right-q.true)
+    in
+    it)) in omega (arith, placed, c.well_formed.0.0)
 
 pub overflow_add-at-then-right-q : goal.overflow_add-at-then-right-q
-overflow_add-at-then-right-q c = let l : Lies c.args.g c.args.face (2 * c.args.cx + c.loop-q.q % 2) (2 * c.args.cy + c.loop-q.q / 2)
+overflow_add-at-then-right-q c =
+    let placed : (c.args.face * c.args.g.distance + 2 * c.args.cy * c.args.g.pitch + 2 * c.args.cx * c.args.g.bytes + c.loop-q.q / 2 *
+    c.args.g.pitch + c.loop-q.q % 2 * c.args.g.bytes ≡ place_of c.args.g c.args.face (2 * c.args.cx + c.loop-q.q % 2)
+    (2 * c.args.cy + c.loop-q.q / 2)) = let a = c.args in place_by a.g a.face a.cx a.cy c.loop-q.q in
+    let l : Lies c.args.g c.args.face (2 * c.args.cx + c.loop-q.q % 2) (2 * c.args.cy + c.loop-q.q / 2)
     (length c.args.dst.now) = lies c.requires.placeable.room ((let it : In c.args.g c.args.face (2 * c.args.cx + c.loop-q.q % 2)
     (2 * c.args.cy + c.loop-q.q / 2) = (let a = c.args in
-    in_grid a.g a.face a.cx a.cy c.loop-q.q a.right a.bottom c.requires.covered c.loop-q-test.true c.requires.sides c.if-right-q.true) in
-    it)) in omega (
-      arith,
-      (let it : (c.args.face * c.args.g.distance + 2 * c.args.cy * c.args.g.pitch + 2 * c.args.cx * c.args.g.bytes
-          + c.loop-q.q / 2 * c.args.g.pitch + c.loop-q.q % 2 * c.args.g.bytes
-          ≡ place_of c.args.g c.args.face (2 * c.args.cx + c.loop-q.q % 2) (2 * c.args.cy + c.loop-q.q / 2)) =
-          (let a = c.args in place_by a.g a.face a.cx a.cy c.loop-q.q) in it),
-      c.well_formed.0.0,
-    )
+    in_grid a.g a.face a.cx a.cy c.loop-q.q a.right a.bottom c.requires.covered c.loop-q-test.true c.requires.sides c.if-right-q.true)
+    in
+    it)) in omega (arith, placed, c.well_formed.0.0)
 
 pub block-requires : goal.block-requires
 block-requires c =
+    let placed : (c.args.face * c.args.g.distance + 2 * c.args.cy * c.args.g.pitch + 2 * c.args.cx * c.args.g.bytes + c.loop-q.q / 2 *
+    c.args.g.pitch + c.loop-q.q % 2 * c.args.g.bytes ≡ place_of c.args.g c.args.face (2 * c.args.cx + c.loop-q.q % 2)
+    (2 * c.args.cy + c.loop-q.q / 2)) = let a = c.args in place_by a.g a.face a.cx a.cy c.loop-q.q in
     let l : Lies c.args.g c.args.face (2 * c.args.cx + c.loop-q.q % 2) (2 * c.args.cy + c.loop-q.q / 2) (length c.args.dst.now) = lies
     c.requires.placeable.room ((let it : In c.args.g c.args.face (2 * c.args.cx + c.loop-q.q % 2) (2 * c.args.cy + c.loop-q.q / 2) =
     (let a = c.args in
@@ -109,16 +104,7 @@ block-requires c =
     let f = c.requires.all_filled q t (inside_so c.args.right c.args.bottom q t c.if-right-q.true) in
     record {
       q_in = t;
-      room = omega (
-        arith,
-        (let it : (c.args.face * c.args.g.distance + 2 * c.args.cy * c.args.g.pitch + 2 * c.args.cx *
-            c.args.g.bytes
-            + c.loop-q.q / 2 * c.args.g.pitch + c.loop-q.q % 2 * c.args.g.bytes
-            ≡ place_of c.args.g c.args.face (2 * c.args.cx + c.loop-q.q % 2) (2 * c.args.cy + c.loop-q.q / 2)) =
-            (let a = c.args in place_by a.g a.face a.cx a.cy c.loop-q.q) in it),
-        c.loop-q.invariant.1.long,
-        c.requires.placeable.bytes,
-      );
+      room = omega (arith, placed, c.loop-q.invariant.1.long, c.requires.placeable.bytes);
       filled
           = subst (λ (k : ℕ). Filled ((lent_of c.args.cends.now c.args.csels.now c.args.aends.now c.args.asels.now)) c.args.ps
           c.args.out.now

@@ -56,48 +56,52 @@ pub overflow_add-level : goal.overflow_add-level
 overflow_add-level c = omega (arith, c.loop-level-test.true, c.struct_known-1.given)
 
 pub overflow_add-from : goal.overflow_add-from
-overflow_add-from c = omega (
-  arith,
-  ((let it : (c.level_sizes-z.result.bytes + c.loop-level.from ≤ length c.loop-level.dst) ×
-      ((c.in-Blocks.cut ≤ most_cutouts) × (c.unpack_made-u.new.budget + c.in-Blocks.symbols ≡ c.loop-level.budget)) =
-      (let o = rw c.in-Blocks.is at (c.unpack_made-u.ensures c.requires.of c.requires.made) in
-      let w = went (record_with c.args.h c.requires.of) _ _ _ _ _ c.level_sizes-z.ensures o in (
-        omega (
-          arith,
-          w.0,
-          c.loop-level.invariant.1.0,
-          ap length (rest-whole c.loop-level.from c.loop-level.dst),
-          length-drop c.loop-level.from
-              c.loop-level.dst,
-        ),
-        (w.1, o.spent),
-      )) in it)).0,
-  c.loop-level.invariant.1.1.0,
-  c.well_formed.1.1.1.1.1.1.1.1.1.1.1.0.0,
-)
+overflow_add-from c =
+    let here : (c.level_sizes-z.result.bytes + c.loop-level.from ≤ length c.loop-level.dst) ×
+    ((c.in-Blocks.cut ≤ most_cutouts) × (c.unpack_made-u.new.budget + c.in-Blocks.symbols ≡ c.loop-level.budget)) = let o = rw
+    c.in-Blocks.is at (c.unpack_made-u.ensures c.requires.of c.requires.made) in let w = went (record_with c.args.h c.requires.of) _ _ _
+    _ _ c.level_sizes-z.ensures o in (
+      omega (
+        arith,
+        w.0,
+        c.loop-level.invariant.1.0,
+        ap length
+            (rest-whole c.loop-level.from c.loop-level.dst),
+        length-drop c.loop-level.from c.loop-level.dst,
+      ),
+      (w.1, o.spent),
+    ) in
+    omega (
+      arith,
+      here.0,
+      c.loop-level.invariant.1.1.0,
+      c.well_formed.1.1.1.1.1.1.1.1.1.1.1.0.0,
+    )
 
 pub overflow_add-cutouts : goal.overflow_add-cutouts
-overflow_add-cutouts c = omega (
-  arith,
-  ((let it : (c.level_sizes-z.result.bytes + c.loop-level.from ≤ length c.loop-level.dst) ×
-      ((c.in-Blocks.cut ≤ most_cutouts) × (c.unpack_made-u.new.budget + c.in-Blocks.symbols ≡ c.loop-level.budget)) =
-      (let o = rw c.in-Blocks.is at (c.unpack_made-u.ensures c.requires.of c.requires.made) in
-      let w = went (record_with c.args.h c.requires.of) _ _ _ _ _ c.level_sizes-z.ensures o in (
-        omega (
-          arith,
-          w.0,
-          c.loop-level.invariant.1.0,
-          ap length (rest-whole c.loop-level.from c.loop-level.dst),
-          length-drop c.loop-level.from
-              c.loop-level.dst,
-        ),
-        (w.1, o.spent),
-      )) in it)).1.0,
-  c.loop-level.invariant.0,
-  c.loop-level.invariant.1.1.1.1.0,
-  c.loop-level-test.true,
-  c.struct_known-1.given,
-)
+overflow_add-cutouts c =
+    let here : (c.level_sizes-z.result.bytes + c.loop-level.from ≤ length c.loop-level.dst) ×
+    ((c.in-Blocks.cut ≤ most_cutouts) × (c.unpack_made-u.new.budget + c.in-Blocks.symbols ≡ c.loop-level.budget)) = let o = rw
+    c.in-Blocks.is at (c.unpack_made-u.ensures c.requires.of c.requires.made) in let w = went (record_with c.args.h c.requires.of) _ _ _
+    _ _ c.level_sizes-z.ensures o in (
+      omega (
+        arith,
+        w.0,
+        c.loop-level.invariant.1.0,
+        ap length
+            (rest-whole c.loop-level.from c.loop-level.dst),
+        length-drop c.loop-level.from c.loop-level.dst,
+      ),
+      (w.1, o.spent),
+    ) in
+    omega (
+      arith,
+      here.1.0,
+      c.loop-level.invariant.0,
+      c.loop-level.invariant.1.1.1.1.0,
+      c.loop-level-test.true,
+      c.struct_known-1.given,
+    )
 
 pub loop-level-smaller : goal.loop-level-smaller
 loop-level-smaller c = omega (arith, c.loop-level-test.true)

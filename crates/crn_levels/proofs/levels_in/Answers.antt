@@ -7,31 +7,36 @@ use Rattle.crn_drawing.proofs.ByRecord.{ready_by}
 use Rattle.crn_levels.proofs.levels_in.Goals as goal
 
 pub levels_by-requires : goal.levels_by-requires
-levels_by-requires c = record {
-  of = ((record_by c.args.h c.args.counts c.args.chunk.now c.args.color_ends.now c.args.color_sels.now
-      c.args.alpha_ends.now
-      c.args.alpha_sels.now)).tables;
-  made = (let it : Made ((record_by c.args.h c.args.counts c.args.chunk.now c.args.color_ends.now
-      c.args.color_sels.now c.args.alpha_ends.now
-      c.args.alpha_sels.now)) c.args.s c.make_tables.new.lookup c.make_tables.new.sorted = (record {
-        within = c.requires.within_limits;
-        tables = c.requires.tables_hold;
-        able = able-kept c.requires.able c.make_tables.auto.lookup c.make_tables.auto.sorted;
-        coded = ready_by ((record_by c.args.h c.args.counts c.args.chunk.now c.args.color_ends.now c.args.color_sels.now
-            c.args.alpha_ends.now
-            c.args.alpha_sels.now)) c.has_color.ensures c.has_alpha.ensures refl c.make_tables.ensures;
-      }) in it);
-}
-
-pub returns : goal.returns
-returns c = c.levels_by.ensures ((record_by c.args.h c.args.counts c.args.chunk.now c.args.color_ends.now c.args.color_sels.now
-    c.args.alpha_ends.now
-    c.args.alpha_sels.now)).tables ((let it : Made ((record_by c.args.h c.args.counts c.args.chunk.now c.args.color_ends.now
-    c.args.color_sels.now c.args.alpha_ends.now
-    c.args.alpha_sels.now)) c.args.s c.make_tables.new.lookup c.make_tables.new.sorted = (record {
+levels_by-requires c =
+    let made_2 : Made ((record_by c.args.h c.args.counts c.args.chunk.now c.args.color_ends.now c.args.color_sels.now c.args.alpha_ends.now
+    c.args.alpha_sels.now)) c.args.s c.make_tables.new.lookup c.make_tables.new.sorted = record {
       within = c.requires.within_limits;
       tables = c.requires.tables_hold;
-      able = able-kept c.requires.able c.make_tables.auto.lookup c.make_tables.auto.sorted;
-      coded = ready_by ((record_by c.args.h c.args.counts c.args.chunk.now c.args.color_ends.now c.args.color_sels.now c.args.alpha_ends.now
-          c.args.alpha_sels.now)) c.has_color.ensures c.has_alpha.ensures refl c.make_tables.ensures;
-    }) in it))
+      able = able-kept c.requires.able c.make_tables.auto.lookup
+          c.make_tables.auto.sorted;
+      coded = ready_by ((record_by c.args.h c.args.counts c.args.chunk.now c.args.color_ends.now
+          c.args.color_sels.now c.args.alpha_ends.now c.args.alpha_sels.now)) c.has_color.ensures c.has_alpha.ensures refl
+          c.make_tables.ensures;
+    } in
+    record {
+      of = ((record_by c.args.h c.args.counts c.args.chunk.now c.args.color_ends.now c.args.color_sels.now
+          c.args.alpha_ends.now
+          c.args.alpha_sels.now)).tables;
+      made = made_2;
+    }
+
+pub returns : goal.returns
+returns c =
+    let made : Made ((record_by c.args.h c.args.counts c.args.chunk.now c.args.color_ends.now c.args.color_sels.now c.args.alpha_ends.now
+    c.args.alpha_sels.now)) c.args.s c.make_tables.new.lookup c.make_tables.new.sorted = record {
+      within = c.requires.within_limits;
+      tables = c.requires.tables_hold;
+      able = able-kept c.requires.able c.make_tables.auto.lookup
+          c.make_tables.auto.sorted;
+      coded = ready_by ((record_by c.args.h c.args.counts c.args.chunk.now c.args.color_ends.now
+          c.args.color_sels.now c.args.alpha_ends.now c.args.alpha_sels.now)) c.has_color.ensures c.has_alpha.ensures refl
+          c.make_tables.ensures;
+    } in
+    c.levels_by.ensures ((record_by c.args.h c.args.counts c.args.chunk.now c.args.color_ends.now c.args.color_sels.now
+    c.args.alpha_ends.now
+    c.args.alpha_sels.now)).tables made

@@ -18,48 +18,48 @@ returns-then-not-within_limits c = none_2 ((record_by c.args.header c.args.count
     c.args.alpha_sels.now)) _ _ _ _ _ (sym c.within_limits.ensures ∙ c.if-not-within_limits.true) c.none.ensures
 
 pub returns-then-not-tables : goal.returns-then-not-tables
-returns-then-not-tables c = none_6 ((record_by c.args.header c.args.counts c.args.chunk.now c.args.color_ends.now c.args.color_sels.now
+returns-then-not-tables c =
+    let within : within_limits c.args.header ≡ true = sym c.within_limits.ensures ∙ c.if-not-within_limits.false in
+    none_6 ((record_by c.args.header c.args.counts c.args.chunk.now c.args.color_ends.now c.args.color_sels.now
     c.args.alpha_ends.now
-    c.args.alpha_sels.now)) _ _ _ _ _ ((let it : within_limits c.args.header ≡ true =
-    (sym c.within_limits.ensures ∙ c.if-not-within_limits.false) in it)) (sym c.tables_hold-tables.ensures ∙ c.if-not-tables.true)
+    c.args.alpha_sels.now)) _ _ _ _ _ within (sym c.tables_hold-tables.ensures ∙ c.if-not-tables.true)
     c.none-then-not-tables.ensures
 
 pub returns-then-header-first : goal.returns-then-header-first
-returns-then-header-first c = none_10 ((record_by c.args.header c.args.counts c.args.chunk.now c.args.color_ends.now c.args.color_sels.now
+returns-then-header-first c =
+    let within : within_limits c.args.header ≡ true = sym c.within_limits.ensures ∙ c.if-not-within_limits.false in
+    let holds : tables_hold ((record_by c.args.header c.args.counts c.args.chunk.now c.args.color_ends.now c.args.color_sels.now
+    c.args.alpha_ends.now c.args.alpha_sels.now)).tables ≡ true = sym c.tables_hold-tables.ensures ∙ c.if-not-tables.false in
+    none_10 ((record_by c.args.header c.args.counts c.args.chunk.now c.args.color_ends.now c.args.color_sels.now
     c.args.alpha_ends.now
-    c.args.alpha_sels.now)) _ _ _ _ _ ((let it : within_limits c.args.header ≡ true =
-    (sym c.within_limits.ensures ∙ c.if-not-within_limits.false) in it))
-    ((let it : tables_hold ((record_by c.args.header c.args.counts c.args.chunk.now c.args.color_ends.now c.args.color_sels.now
-    c.args.alpha_ends.now
-    c.args.alpha_sels.now)).tables ≡ true = (sym c.tables_hold-tables.ensures ∙ c.if-not-tables.false) in it)) c.if-header-first.true
+    c.args.alpha_sels.now)) _ _ _ _ _ within
+    holds c.if-header-first.true
     c.none-then-header-first.ensures
 
 pub levels_in-requires : goal.levels_in-requires
-levels_in-requires c = record {
-  within_limits = (let it : within_limits c.args.header ≡ true =
-      (sym c.within_limits.ensures ∙ c.if-not-within_limits.false) in it);
-  tables_hold =
-      (let it : tables_hold ((record_by c.args.header c.args.counts c.args.chunk.now c.args.color_ends.now c.args.color_sels.now
-      c.args.alpha_ends.now
-      c.args.alpha_sels.now)).tables ≡ true = (sym c.tables_hold-tables.ensures ∙ c.if-not-tables.false) in it);
-  all_fair =
-      (let it : AllFair c.args.counts c.args.chunk.now c.args.color_ends.now c.args.color_sels.now c.args.alpha_ends.now
-      c.args.alpha_sels.now c.sizes_for-s.result.sorted_step =
-      (all_fair ((record_by c.args.header c.args.counts c.args.chunk.now c.args.color_ends.now c.args.color_sels.now c.args.alpha_ends.now
-      c.args.alpha_sels.now)).tables _ ((let it : Long ((record_by c.args.header c.args.counts c.args.chunk.now c.args.color_ends.now
-      c.args.color_sels.now c.args.alpha_ends.now
-      c.args.alpha_sels.now)).tables = (search rules) in it)) ((let it : tables_hold
-      ((record_by c.args.header c.args.counts c.args.chunk.now c.args.color_ends.now c.args.color_sels.now c.args.alpha_ends.now
-      c.args.alpha_sels.now)).tables ≡ true = (sym c.tables_hold-tables.ensures ∙ c.if-not-tables.false) in it))
-      (((let it : Sized c.args.counts c.sizes_for-s.result = (sized _ _ _ c.sizes_for-s.ensures) in it)).room
-      (at_most ((record_by c.args.header c.args.counts c.args.chunk.now c.args.color_ends.now c.args.color_sels.now c.args.alpha_ends.now
-      c.args.alpha_sels.now)).tables ((let it : tables_hold ((record_by c.args.header c.args.counts c.args.chunk.now c.args.color_ends.now
-      c.args.color_sels.now c.args.alpha_ends.now
-      c.args.alpha_sels.now)).tables ≡ true = (sym c.tables_hold-tables.ensures ∙ c.if-not-tables.false) in it))))) in it);
-  able = able_in 288
-      1024 ((let it : Sized c.args.counts c.sizes_for-s.result = (sized _ _ _ c.sizes_for-s.ensures) in it)) c.if-s-le288.true
-      c.if-s-le1024.true;
-}
+levels_in-requires c =
+    let within : within_limits c.args.header ≡ true = sym c.within_limits.ensures ∙ c.if-not-within_limits.false in
+    let holds : tables_hold ((record_by c.args.header c.args.counts c.args.chunk.now c.args.color_ends.now c.args.color_sels.now
+    c.args.alpha_ends.now c.args.alpha_sels.now)).tables ≡ true = sym c.tables_hold-tables.ensures ∙ c.if-not-tables.false in
+    let long : Long ((record_by c.args.header c.args.counts c.args.chunk.now c.args.color_ends.now c.args.color_sels.now
+    c.args.alpha_ends.now c.args.alpha_sels.now)).tables = search rules in
+    let chosen : Sized c.args.counts c.sizes_for-s.result = sized _ _ _ c.sizes_for-s.ensures in
+    let fair : AllFair c.args.counts c.args.chunk.now c.args.color_ends.now c.args.color_sels.now c.args.alpha_ends.now
+    c.args.alpha_sels.now c.sizes_for-s.result.sorted_step = all_fair
+    ((record_by c.args.header c.args.counts c.args.chunk.now c.args.color_ends.now c.args.color_sels.now c.args.alpha_ends.now
+    c.args.alpha_sels.now)).tables _ long holds (chosen.room
+    (at_most ((record_by c.args.header c.args.counts c.args.chunk.now c.args.color_ends.now c.args.color_sels.now c.args.alpha_ends.now
+    c.args.alpha_sels.now)).tables holds)) in
+    record {
+      within_limits = within;
+      tables_hold =
+          holds;
+      all_fair =
+          fair;
+      able = able_in 288
+          1024 chosen c.if-s-le288.true
+          c.if-s-le1024.true;
+    }
 
 pub returns-then-s-le288 : goal.returns-then-s-le288
 returns-then-s-le288 c = some ((record_by c.args.header c.args.counts c.args.chunk.now c.args.color_ends.now c.args.color_sels.now
@@ -67,32 +67,30 @@ returns-then-s-le288 c = some ((record_by c.args.header c.args.counts c.args.chu
     c.args.alpha_sels.now)) _ _ _ _ _ (omega (arith, c.if-header-first.false)) c.levels_in.ensures
 
 pub levels_in-requires-then-s-le1024 : goal.levels_in-requires-then-s-le1024
-levels_in-requires-then-s-le1024 c = record {
-  within_limits = (let it : within_limits c.args.header ≡ true =
-      (sym c.within_limits.ensures ∙ c.if-not-within_limits.false) in it);
-  tables_hold =
-      (let it : tables_hold ((record_by c.args.header c.args.counts c.args.chunk.now c.args.color_ends.now c.args.color_sels.now
-      c.args.alpha_ends.now
-      c.args.alpha_sels.now)).tables ≡ true = (sym c.tables_hold-tables.ensures ∙ c.if-not-tables.false) in it);
-  all_fair =
-      (let it : AllFair c.args.counts c.args.chunk.now c.args.color_ends.now c.args.color_sels.now c.args.alpha_ends.now
-      c.args.alpha_sels.now c.sizes_for-s.result.sorted_step =
-      (all_fair ((record_by c.args.header c.args.counts c.args.chunk.now c.args.color_ends.now c.args.color_sels.now c.args.alpha_ends.now
-      c.args.alpha_sels.now)).tables _ ((let it : Long ((record_by c.args.header c.args.counts c.args.chunk.now c.args.color_ends.now
-      c.args.color_sels.now c.args.alpha_ends.now
-      c.args.alpha_sels.now)).tables = (search rules) in it)) ((let it : tables_hold
-      ((record_by c.args.header c.args.counts c.args.chunk.now c.args.color_ends.now c.args.color_sels.now c.args.alpha_ends.now
-      c.args.alpha_sels.now)).tables ≡ true = (sym c.tables_hold-tables.ensures ∙ c.if-not-tables.false) in it))
-      (((let it : Sized c.args.counts c.sizes_for-s.result = (sized _ _ _ c.sizes_for-s.ensures) in it)).room
-      (at_most ((record_by c.args.header c.args.counts c.args.chunk.now c.args.color_ends.now c.args.color_sels.now c.args.alpha_ends.now
-      c.args.alpha_sels.now)).tables ((let it : tables_hold ((record_by c.args.header c.args.counts c.args.chunk.now c.args.color_ends.now
-      c.args.color_sels.now c.args.alpha_ends.now
-      c.args.alpha_sels.now)).tables ≡ true = (sym c.tables_hold-tables.ensures ∙ c.if-not-tables.false) in it))))) in it);
-  able = able_in
-      2080 1024 ((let it : Sized c.args.counts c.sizes_for-s.result = (sized _ _ _ c.sizes_for-s.ensures) in it))
-      (((let it : Sized c.args.counts c.sizes_for-s.result = (sized _ _ _ c.sizes_for-s.ensures) in it)).fewer c.if-s-le1024.true)
-      c.if-s-le1024.true;
-}
+levels_in-requires-then-s-le1024 c =
+    let within : within_limits c.args.header ≡ true = sym c.within_limits.ensures ∙ c.if-not-within_limits.false in
+    let holds : tables_hold ((record_by c.args.header c.args.counts c.args.chunk.now c.args.color_ends.now c.args.color_sels.now
+    c.args.alpha_ends.now c.args.alpha_sels.now)).tables ≡ true = sym c.tables_hold-tables.ensures ∙ c.if-not-tables.false in
+    let long : Long ((record_by c.args.header c.args.counts c.args.chunk.now c.args.color_ends.now c.args.color_sels.now
+    c.args.alpha_ends.now c.args.alpha_sels.now)).tables = search rules in
+    let chosen : Sized c.args.counts c.sizes_for-s.result = sized _ _ _ c.sizes_for-s.ensures in
+    let fair : AllFair c.args.counts c.args.chunk.now c.args.color_ends.now c.args.color_sels.now c.args.alpha_ends.now
+    c.args.alpha_sels.now c.sizes_for-s.result.sorted_step = all_fair
+    ((record_by c.args.header c.args.counts c.args.chunk.now c.args.color_ends.now c.args.color_sels.now c.args.alpha_ends.now
+    c.args.alpha_sels.now)).tables _ long holds (chosen.room
+    (at_most ((record_by c.args.header c.args.counts c.args.chunk.now c.args.color_ends.now c.args.color_sels.now c.args.alpha_ends.now
+    c.args.alpha_sels.now)).tables holds)) in
+    record {
+      within_limits = within;
+      tables_hold =
+          holds;
+      all_fair =
+          fair;
+      able = able_in
+          2080 1024 chosen
+          (chosen.fewer c.if-s-le1024.true)
+          c.if-s-le1024.true;
+    }
 
 pub returns-then-s-le1024 : goal.returns-then-s-le1024
 returns-then-s-le1024 c = some ((record_by c.args.header c.args.counts c.args.chunk.now c.args.color_ends.now c.args.color_sels.now
@@ -100,32 +98,30 @@ returns-then-s-le1024 c = some ((record_by c.args.header c.args.counts c.args.ch
     c.args.alpha_sels.now)) _ _ _ _ _ (omega (arith, c.if-header-first.false)) c.levels_in-then-s-le1024.ensures
 
 pub levels_in-requires-2 : goal.levels_in-requires-2
-levels_in-requires-2 c = record {
-  within_limits = (let it : within_limits c.args.header ≡ true =
-      (sym c.within_limits.ensures ∙ c.if-not-within_limits.false) in it);
-  tables_hold =
-      (let it : tables_hold ((record_by c.args.header c.args.counts c.args.chunk.now c.args.color_ends.now c.args.color_sels.now
-      c.args.alpha_ends.now
-      c.args.alpha_sels.now)).tables ≡ true = (sym c.tables_hold-tables.ensures ∙ c.if-not-tables.false) in it);
-  all_fair =
-      (let it : AllFair c.args.counts c.args.chunk.now c.args.color_ends.now c.args.color_sels.now c.args.alpha_ends.now
-      c.args.alpha_sels.now c.sizes_for-s.result.sorted_step =
-      (all_fair ((record_by c.args.header c.args.counts c.args.chunk.now c.args.color_ends.now c.args.color_sels.now c.args.alpha_ends.now
-      c.args.alpha_sels.now)).tables _ ((let it : Long ((record_by c.args.header c.args.counts c.args.chunk.now c.args.color_ends.now
-      c.args.color_sels.now c.args.alpha_ends.now
-      c.args.alpha_sels.now)).tables = (search rules) in it)) ((let it : tables_hold
-      ((record_by c.args.header c.args.counts c.args.chunk.now c.args.color_ends.now c.args.color_sels.now c.args.alpha_ends.now
-      c.args.alpha_sels.now)).tables ≡ true = (sym c.tables_hold-tables.ensures ∙ c.if-not-tables.false) in it))
-      (((let it : Sized c.args.counts c.sizes_for-s.result = (sized _ _ _ c.sizes_for-s.ensures) in it)).room
-      (at_most ((record_by c.args.header c.args.counts c.args.chunk.now c.args.color_ends.now c.args.color_sels.now c.args.alpha_ends.now
-      c.args.alpha_sels.now)).tables ((let it : tables_hold ((record_by c.args.header c.args.counts c.args.chunk.now c.args.color_ends.now
-      c.args.color_sels.now c.args.alpha_ends.now
-      c.args.alpha_sels.now)).tables ≡ true = (sym c.tables_hold-tables.ensures ∙ c.if-not-tables.false) in it))))) in it);
-  able = able_in
-      4128 8192 ((let it : Sized c.args.counts c.sizes_for-s.result = (sized _ _ _ c.sizes_for-s.ensures) in it))
-      ((let it : Sized c.args.counts c.sizes_for-s.result = (sized _ _ _ c.sizes_for-s.ensures) in it)).words
-      ((let it : Sized c.args.counts c.sizes_for-s.result = (sized _ _ _ c.sizes_for-s.ensures) in it)).symbols;
-}
+levels_in-requires-2 c =
+    let within : within_limits c.args.header ≡ true = sym c.within_limits.ensures ∙ c.if-not-within_limits.false in
+    let holds : tables_hold ((record_by c.args.header c.args.counts c.args.chunk.now c.args.color_ends.now c.args.color_sels.now
+    c.args.alpha_ends.now c.args.alpha_sels.now)).tables ≡ true = sym c.tables_hold-tables.ensures ∙ c.if-not-tables.false in
+    let long : Long ((record_by c.args.header c.args.counts c.args.chunk.now c.args.color_ends.now c.args.color_sels.now
+    c.args.alpha_ends.now c.args.alpha_sels.now)).tables = search rules in
+    let chosen : Sized c.args.counts c.sizes_for-s.result = sized _ _ _ c.sizes_for-s.ensures in
+    let fair : AllFair c.args.counts c.args.chunk.now c.args.color_ends.now c.args.color_sels.now c.args.alpha_ends.now
+    c.args.alpha_sels.now c.sizes_for-s.result.sorted_step = all_fair
+    ((record_by c.args.header c.args.counts c.args.chunk.now c.args.color_ends.now c.args.color_sels.now c.args.alpha_ends.now
+    c.args.alpha_sels.now)).tables _ long holds (chosen.room
+    (at_most ((record_by c.args.header c.args.counts c.args.chunk.now c.args.color_ends.now c.args.color_sels.now c.args.alpha_ends.now
+    c.args.alpha_sels.now)).tables holds)) in
+    record {
+      within_limits = within;
+      tables_hold =
+          holds;
+      all_fair =
+          fair;
+      able = able_in
+          4128 8192 chosen
+          chosen.words
+          chosen.symbols;
+    }
 
 pub returns : goal.returns
 returns c = some ((record_by c.args.header c.args.counts c.args.chunk.now c.args.color_ends.now c.args.color_sels.now c.args.alpha_ends.now

@@ -19,53 +19,52 @@ returns-then-not-within_limits c = simp (sym c.within_limits.ensures ∙ c.if-no
 
 pub returns-then-header-level : goal.returns-then-header-level
 unfolding level_sizes
-returns-then-header-level c = simp (
-  (let it : within_limits c.args.header ≡ true =
-      (sym c.within_limits.ensures ∙ c.if-not-within_limits.false) in it),
-  le-ltb _ _ c.if-header-level.true,
-  c.no_sizes-then-header-level.ensures,
-)
+returns-then-header-level c =
+    let within : within_limits c.args.header ≡ true = sym c.within_limits.ensures ∙ c.if-not-within_limits.false in
+    simp (
+      within,
+      le-ltb _ _ c.if-header-level.true,
+      c.no_sizes-then-header-level.ensures,
+    )
 
 pub overflow_cast-header : goal.overflow_cast-header
-overflow_cast-header c = omega (
-  arith,
-  ((let it : Limited c.args.header =
-      (limited _ ((let it : within_limits c.args.header ≡ true = (sym c.within_limits.ensures ∙ c.if-not-within_limits.false) in it))) in
-      it)).faces,
-)
+overflow_cast-header c =
+    let within : within_limits c.args.header ≡ true = sym c.within_limits.ensures ∙ c.if-not-within_limits.false in
+    omega (
+      arith,
+      ((let it : Limited c.args.header =
+          (limited _ within) in
+          it)).faces,
+    )
 
 pub overflow_cast-columns : goal.overflow_cast-columns
 unfolding grid_of
-overflow_cast-columns c = omega (
-  arith,
-  (let it : c.columns_of-columns.result ≤ 1024 =
-      (rw (c.columns_of-columns.ensures.0 0 0) (few c.args.header.width c.args.level
-      ((let it : Limited c.args.header = (limited _ ((let it : within_limits c.args.header ≡ true =
-      (sym c.within_limits.ensures ∙ c.if-not-within_limits.false) in it))) in it)).width)) in it),
-)
+overflow_cast-columns c =
+    let within : within_limits c.args.header ≡ true = sym c.within_limits.ensures ∙ c.if-not-within_limits.false in
+    let small : Limited c.args.header = limited _ within in
+    let wide : c.columns_of-columns.result ≤ 1024 = rw (c.columns_of-columns.ensures.0 0 0)
+    (few c.args.header.width c.args.level small.width) in
+    omega (arith, wide)
 
 pub overflow_cast-rows : goal.overflow_cast-rows
 unfolding grid_of
-overflow_cast-rows c = omega (
-  arith,
-  (let it : c.rows_of-rows.result ≤ 1024 =
-      (rw (c.rows_of-rows.ensures.0 0 0) (few c.args.header.height c.args.level
-      ((let it : Limited c.args.header = (limited _ ((let it : within_limits c.args.header ≡ true =
-      (sym c.within_limits.ensures ∙ c.if-not-within_limits.false) in it))) in it)).height)) in it),
-)
+overflow_cast-rows c =
+    let within : within_limits c.args.header ≡ true = sym c.within_limits.ensures ∙ c.if-not-within_limits.false in
+    let small : Limited c.args.header = limited _ within in
+    let high : c.rows_of-rows.result ≤ 1024 = rw (c.rows_of-rows.ensures.0 0 0) (few c.args.header.height c.args.level small.height) in
+    omega (arith, high)
 
 pub overflow_cast-bytes : goal.overflow_cast-bytes
-overflow_cast-bytes c = omega (
-  arith,
-  (let it : c.block_bytes-bytes.result ≤ 16 =
-      (rw c.block_bytes-bytes.ensures (bytes-at-most (kind_of c.args.header.format))) in it),
-)
+overflow_cast-bytes c =
+    let thick : c.block_bytes-bytes.result ≤ 16 = rw c.block_bytes-bytes.ensures (bytes-at-most (kind_of c.args.header.format)) in
+    omega (arith, thick)
 
 pub returns : goal.returns
 unfolding level_sizes grid_of
 returns c =
+    let within : within_limits c.args.header ≡ true = sym c.within_limits.ensures ∙ c.if-not-within_limits.false in
     simp (
-      (let it : within_limits c.args.header ≡ true = (sym c.within_limits.ensures ∙ c.if-not-within_limits.false) in it),
+      within,
       lt-ltb _ _ c.if-header-level.false,
       c.sizes_by.ensures,
       c.columns_of-columns.ensures.0 0 0,

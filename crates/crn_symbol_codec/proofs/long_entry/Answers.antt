@@ -1,10 +1,28 @@
-use Prim.Native.Nat.{◌+◌, ◌-◌, ◌*◌, ◌/◌, ◌^◌, ◌<◌, ◌≤◌}
+use Prim.Native.Nat.{ℕ, ◌+◌, ◌-◌, ◌*◌, ◌/◌, ◌^◌, ◌<◌, ◌≤◌}
+use mathlib.Core.List.{List}
 use mathlib.Core.Path.{◌≡◌, refl, ap, ◌∙◌}
 use native.Mathlib.Omega.{arith}
 use lib.ListN.{get_or}
-use Rattle.crn_symbol_codec.specs.Decoders.{longest_in, front}
-use Rattle.crn_symbol_codec.proofs.Seeking.{front-twice, long_begins, long_done, long-small, long-found, long-more}
+use Rattle.crn_symbol_codec.specs.Decoders.{Usable, longest_in, front}
+use Rattle.crn_symbol_codec.proofs.Seeking.{Long, front-twice, long_begins, long_done, long-small, long-found, long-more}
 use Rattle.crn_symbol_codec.proofs.long_entry.Goals as goal
+
+-- the turn's bits
+window : (lookup sorted : List ℕ) (bits k : ℕ) → Usable lookup sorted → k < longest_in lookup
+    → bits / 2 ^ 48 / 2 ^ (16 - (k + 1)) ≡ front 64 bits (k + 1)
+window lookup sorted bits k u l = front-twice bits 48 (16 - (k + 1)) (k + 1) (omega (arith, u.most))
+
+-- what keeps the turn's sums in range
+abbrev Small : List ℕ → ℕ → ℕ → ℕ → ℕ → Type 0
+Small lookup bits k first offset =
+    (first ≤ bits / 2 ^ 48 / 2 ^ (16 - (k + 1))) × (bits / 2 ^ 48 / 2 ^ (16 - (k + 1)) < 65536)
+    × (get_or lookup (8 + (k + 1)) 0 ≤ 65535) × (offset ≤ 65535 * k)
+
+small : {lookup sorted : List ℕ} (bits k first offset : ℕ) → Usable lookup sorted → Long lookup sorted bits k first offset
+    → bits < 2 ^ 64 → k < longest_in lookup → Small lookup bits k first offset
+small {lookup} {sorted} bits k first offset u i b l =
+    let s = long-small u i b l in
+    rw (window lookup sorted bits k u l) (i.low l, s.0, s.1, i.few l)
 
 pub loop-k-init : goal.loop-k-init
 loop-k-init c = long_begins c.requires.usable c.requires.not_short
@@ -12,53 +30,29 @@ loop-k-init c = long_begins c.requires.usable c.requires.not_short
 pub overflow_add-first : goal.overflow_add-first
 overflow_add-first c = omega (
   arith,
-  (let it : ((c.loop-k.first ≤ c.args.bits / 2 ^ 48 / 2 ^ (16 - (c.loop-k.k + 1)))
-      × (c.args.bits / 2 ^ 48 / 2 ^ (16 - (c.loop-k.k + 1)) < 65536)
-      × (get_or c.args.lookup.now (8 + (c.loop-k.k + 1)) 0 ≤ 65535)
-      × (c.loop-k.offset ≤ 65535 * c.loop-k.k)) = (let l : c.loop-k.k < longest_in c.args.lookup.now = (omega arith) in let s = long-small
-      c.requires.usable c.loop-k.invariant c.ranges.bits.fits l in
-      rw ((let it : c.args.bits / 2 ^ 48 / 2 ^ (16 - (c.loop-k.k + 1)) ≡ front 64 c.args.bits (c.loop-k.k + 1) =
-      (let l : c.loop-k.k < longest_in c.args.lookup.now = l in front-twice c.args.bits 48 (16 - (c.loop-k.k + 1)) (c.loop-k.k + 1)
-      (omega (arith, c.requires.usable.most))) in it)) (c.loop-k.invariant.low l, s.0, s.1, c.loop-k.invariant.few l)) in it),
+  small c.args.bits c.loop-k.k c.loop-k.first c.loop-k.offset c.requires.usable c.loop-k.invariant
+      c.ranges.bits.fits (omega arith),
 )
 
 pub overflow_sub-v-then-v-first : goal.overflow_sub-v-then-v-first
 overflow_sub-v-then-v-first c = omega (
   arith,
-  (let it : ((c.loop-k.first ≤ c.args.bits / 2 ^ 48 / 2 ^ (16 - (c.loop-k.k + 1)))
-      × (c.args.bits / 2 ^ 48 / 2 ^ (16 - (c.loop-k.k + 1)) < 65536)
-      × (get_or c.args.lookup.now (8 + (c.loop-k.k + 1)) 0 ≤ 65535)
-      × (c.loop-k.offset ≤ 65535 * c.loop-k.k)) = (let l : c.loop-k.k < longest_in c.args.lookup.now = (omega arith) in let s = long-small
-      c.requires.usable c.loop-k.invariant c.ranges.bits.fits l in
-      rw ((let it : c.args.bits / 2 ^ 48 / 2 ^ (16 - (c.loop-k.k + 1)) ≡ front 64 c.args.bits (c.loop-k.k + 1) =
-      (let l : c.loop-k.k < longest_in c.args.lookup.now = l in front-twice c.args.bits 48 (16 - (c.loop-k.k + 1)) (c.loop-k.k + 1)
-      (omega (arith, c.requires.usable.most))) in it)) (c.loop-k.invariant.low l, s.0, s.1, c.loop-k.invariant.few l)) in it),
+  small c.args.bits c.loop-k.k c.loop-k.first c.loop-k.offset c.requires.usable
+      c.loop-k.invariant c.ranges.bits.fits (omega arith),
 )
 
 pub overflow_add-offset : goal.overflow_add-offset
 overflow_add-offset c = omega (
   arith,
-  (let it : ((c.loop-k.first ≤ c.args.bits / 2 ^ 48 / 2 ^ (16 - (c.loop-k.k + 1)))
-      × (c.args.bits / 2 ^ 48 / 2 ^ (16 - (c.loop-k.k + 1)) < 65536)
-      × (get_or c.args.lookup.now (8 + (c.loop-k.k + 1)) 0 ≤ 65535)
-      × (c.loop-k.offset ≤ 65535 * c.loop-k.k)) = (let l : c.loop-k.k < longest_in c.args.lookup.now = (omega arith) in let s = long-small
-      c.requires.usable c.loop-k.invariant c.ranges.bits.fits l in
-      rw ((let it : c.args.bits / 2 ^ 48 / 2 ^ (16 - (c.loop-k.k + 1)) ≡ front 64 c.args.bits (c.loop-k.k + 1) =
-      (let l : c.loop-k.k < longest_in c.args.lookup.now = l in front-twice c.args.bits 48 (16 - (c.loop-k.k + 1)) (c.loop-k.k + 1)
-      (omega (arith, c.requires.usable.most))) in it)) (c.loop-k.invariant.low l, s.0, s.1, c.loop-k.invariant.few l)) in it),
+  small c.args.bits c.loop-k.k c.loop-k.first c.loop-k.offset c.requires.usable c.loop-k.invariant
+      c.ranges.bits.fits (omega arith),
 )
 
 pub overflow_cast-offset : goal.overflow_cast-offset
 overflow_cast-offset c = omega (
   arith,
-  (let it : ((c.loop-k.first ≤ c.args.bits / 2 ^ 48 / 2 ^ (16 - (c.loop-k.k + 1)))
-      × (c.args.bits / 2 ^ 48 / 2 ^ (16 - (c.loop-k.k + 1)) < 65536)
-      × (get_or c.args.lookup.now (8 + (c.loop-k.k + 1)) 0 ≤ 65535)
-      × (c.loop-k.offset ≤ 65535 * c.loop-k.k)) = (let l : c.loop-k.k < longest_in c.args.lookup.now = (omega arith) in let s = long-small
-      c.requires.usable c.loop-k.invariant c.ranges.bits.fits l in
-      rw ((let it : c.args.bits / 2 ^ 48 / 2 ^ (16 - (c.loop-k.k + 1)) ≡ front 64 c.args.bits (c.loop-k.k + 1) =
-      (let l : c.loop-k.k < longest_in c.args.lookup.now = l in front-twice c.args.bits 48 (16 - (c.loop-k.k + 1)) (c.loop-k.k + 1)
-      (omega (arith, c.requires.usable.most))) in it)) (c.loop-k.invariant.low l, s.0, s.1, c.loop-k.invariant.few l)) in it),
+  small c.args.bits c.loop-k.k c.loop-k.first c.loop-k.offset c.requires.usable c.loop-k.invariant
+      c.ranges.bits.fits (omega arith),
 )
 
 pub overflow_mul-result : goal.overflow_mul-result
@@ -74,56 +68,33 @@ pub returns-then-v-first : goal.returns-then-v-first
 returns-then-v-first c =
     ap (λ (y : _). 64 * y + (c.loop-k.k + 1)) c.symbol.ensures.0
     ∙ long-found c.requires.usable c.loop-k.invariant _ _ (omega arith)
-    ((let it : c.args.bits / 2 ^ 48 / 2 ^ (16 - (c.loop-k.k + 1)) ≡ front 64 c.args.bits (c.loop-k.k + 1) =
-    (let l : c.loop-k.k < longest_in c.args.lookup.now = (omega arith) in front-twice c.args.bits 48 (16 - (c.loop-k.k + 1))
-    (c.loop-k.k + 1) (omega (arith, c.requires.usable.most))) in it)) refl (omega arith)
+    (window c.args.lookup.now c.args.sorted.now c.args.bits c.loop-k.k c.requires.usable (omega arith)) refl (omega arith)
 
 pub overflow_add-first-in-loop-k : goal.overflow_add-first-in-loop-k
 overflow_add-first-in-loop-k c = omega (
   arith,
-  (let it : ((c.loop-k.first ≤ c.args.bits / 2 ^ 48 / 2 ^ (16 - (c.loop-k.k + 1)))
-      × (c.args.bits / 2 ^ 48 / 2 ^ (16 - (c.loop-k.k + 1)) < 65536)
-      × (get_or c.args.lookup.now (8 + (c.loop-k.k + 1)) 0 ≤ 65535)
-      × (c.loop-k.offset ≤ 65535 * c.loop-k.k)) = (let l : c.loop-k.k < longest_in c.args.lookup.now = (omega arith) in let s = long-small
-      c.requires.usable c.loop-k.invariant c.ranges.bits.fits l in
-      rw ((let it : c.args.bits / 2 ^ 48 / 2 ^ (16 - (c.loop-k.k + 1)) ≡ front 64 c.args.bits (c.loop-k.k + 1) =
-      (let l : c.loop-k.k < longest_in c.args.lookup.now = l in front-twice c.args.bits 48 (16 - (c.loop-k.k + 1)) (c.loop-k.k + 1)
-      (omega (arith, c.requires.usable.most))) in it)) (c.loop-k.invariant.low l, s.0, s.1, c.loop-k.invariant.few l)) in it),
+  small c.args.bits c.loop-k.k c.loop-k.first c.loop-k.offset c.requires.usable
+      c.loop-k.invariant c.ranges.bits.fits (omega arith),
 )
 
 pub overflow_mul-first : goal.overflow_mul-first
 overflow_mul-first c = omega (
   arith,
-  (let it : ((c.loop-k.first ≤ c.args.bits / 2 ^ 48 / 2 ^ (16 - (c.loop-k.k + 1)))
-      × (c.args.bits / 2 ^ 48 / 2 ^ (16 - (c.loop-k.k + 1)) < 65536)
-      × (get_or c.args.lookup.now (8 + (c.loop-k.k + 1)) 0 ≤ 65535)
-      × (c.loop-k.offset ≤ 65535 * c.loop-k.k)) = (let l : c.loop-k.k < longest_in c.args.lookup.now = (omega arith) in let s = long-small
-      c.requires.usable c.loop-k.invariant c.ranges.bits.fits l in
-      rw ((let it : c.args.bits / 2 ^ 48 / 2 ^ (16 - (c.loop-k.k + 1)) ≡ front 64 c.args.bits (c.loop-k.k + 1) =
-      (let l : c.loop-k.k < longest_in c.args.lookup.now = l in front-twice c.args.bits 48 (16 - (c.loop-k.k + 1)) (c.loop-k.k + 1)
-      (omega (arith, c.requires.usable.most))) in it)) (c.loop-k.invariant.low l, s.0, s.1, c.loop-k.invariant.few l)) in it),
+  small c.args.bits c.loop-k.k c.loop-k.first c.loop-k.offset c.requires.usable c.loop-k.invariant
+      c.ranges.bits.fits (omega arith),
 )
 
 pub overflow_add-offset-in-loop-k : goal.overflow_add-offset-in-loop-k
 overflow_add-offset-in-loop-k c = omega (
   arith,
-  (let it : ((c.loop-k.first ≤ c.args.bits / 2 ^ 48 / 2 ^ (16 - (c.loop-k.k + 1)))
-      × (c.args.bits / 2 ^ 48 / 2 ^ (16 - (c.loop-k.k + 1)) < 65536)
-      × (get_or c.args.lookup.now (8 + (c.loop-k.k + 1)) 0 ≤ 65535)
-      × (c.loop-k.offset ≤ 65535 * c.loop-k.k)) = (let l : c.loop-k.k < longest_in c.args.lookup.now = (omega arith) in let s = long-small
-      c.requires.usable c.loop-k.invariant c.ranges.bits.fits l in
-      rw ((let it : c.args.bits / 2 ^ 48 / 2 ^ (16 - (c.loop-k.k + 1)) ≡ front 64 c.args.bits (c.loop-k.k + 1) =
-      (let l : c.loop-k.k < longest_in c.args.lookup.now = l in front-twice c.args.bits 48 (16 - (c.loop-k.k + 1)) (c.loop-k.k + 1)
-      (omega (arith, c.requires.usable.most))) in it)) (c.loop-k.invariant.low l, s.0, s.1, c.loop-k.invariant.few l)) in it),
+  small c.args.bits c.loop-k.k c.loop-k.first c.loop-k.offset c.requires.usable
+      c.loop-k.invariant c.ranges.bits.fits (omega arith),
 )
 
 pub loop-k-preserved : goal.loop-k-preserved
 loop-k-preserved c =
     long-more c.requires.usable c.loop-k.invariant _ _ (omega arith)
-    ((let it : c.args.bits / 2 ^ 48 / 2 ^ (16 - (c.loop-k.k + 1)) ≡ front 64 c.args.bits (c.loop-k.k + 1) =
-    (let l : c.loop-k.k < longest_in c.args.lookup.now = (omega arith) in front-twice c.args.bits 48 (16 - (c.loop-k.k + 1))
-    (c.loop-k.k + 1) (omega (arith, c.requires.usable.most))) in it)) refl (omega arith)
+    (window c.args.lookup.now c.args.sorted.now c.args.bits c.loop-k.k c.requires.usable (omega arith)) refl (omega arith)
 
 pub returns : goal.returns
-returns c =
-    long_done c.requires.usable c.loop-k.invariant (omega arith)
+returns c = long_done c.requires.usable c.loop-k.invariant (omega arith)

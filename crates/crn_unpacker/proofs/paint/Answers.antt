@@ -22,15 +22,13 @@ shape_of-dst-in_default c =
 
 pub returns-in_default : goal.returns-in_default
 returns-in_default c =
+    let moved : Goes ((let a = c.args in given a.lookup.now a.sorted.now a.seg.now a.cends.now a.csels.now a.aends.now a.asels.now a.ps
+    a.g)) 0 (row_start c.args.g (c.loop-face.face + 1) 0) none c.args.s c.args.dst.now c.face_rows-w.new.dst c.face_rows-w.result = let
+    g = c.args.g in let face = c.loop-face.face in carry c.requires.fit.room (omega arith) (face_later g (omega arith))
+    c.loop-face.invariant.1 (respell refl (face-next g face) refl c.face_rows-w.ensures) in
     let g = c.args.g in
     let h : row_start g (c.loop-face.face + 1) 0 ≤ row_start g g.faces 0 = face_later g (omega (arith, c.loop-face-test.true)) in
-    stop-early (omega (arith, h, face-last g)) c.in_default.is ((let it : Goes ((let a = c.args in
-    given a.lookup.now a.sorted.now a.seg.now a.cends.now a.csels.now a.aends.now a.asels.now a.ps a.g)) 0
-    (row_start c.args.g (c.loop-face.face + 1) 0) none c.args.s c.args.dst.now c.face_rows-w.new.dst c.face_rows-w.result =
-    (let g = c.args.g in
-    let face = c.loop-face.face in
-    carry c.requires.fit.room (omega arith) (face_later g (omega arith)) c.loop-face.invariant.1
-    (respell refl (face-next g face) refl c.face_rows-w.ensures)) in it))
+    stop-early (omega (arith, h, face-last g)) c.in_default.is moved
 
 pub overflow_add-face : goal.overflow_add-face
 overflow_add-face c = omega (arith, c.loop-face-test.true, c.requires.fit.room.few_faces)
@@ -39,16 +37,14 @@ pub loop-face-smaller : goal.loop-face-smaller
 loop-face-smaller c = omega (arith, c.loop-face-test.true)
 
 pub loop-face-preserved : goal.loop-face-preserved
-loop-face-preserved c = (
-  omega (arith, c.loop-face-test.true),
-  respell refl refl c.in-On.is ((let it : Goes ((let a = c.args in
-      given a.lookup.now a.sorted.now a.seg.now a.cends.now a.csels.now a.aends.now a.asels.now a.ps a.g)) 0
-      (row_start c.args.g (c.loop-face.face + 1) 0) none c.args.s c.args.dst.now c.face_rows-w.new.dst c.face_rows-w.result =
-      (let g = c.args.g in
-      let face = c.loop-face.face in
-      carry c.requires.fit.room (omega arith) (face_later g (omega arith)) c.loop-face.invariant.1
-      (respell refl (face-next g face) refl c.face_rows-w.ensures)) in it)),
-)
+loop-face-preserved c =
+    let moved : Goes ((let a = c.args in given a.lookup.now a.sorted.now a.seg.now a.cends.now a.csels.now a.aends.now a.asels.now a.ps
+    a.g)) 0 (row_start c.args.g (c.loop-face.face + 1) 0) none c.args.s c.args.dst.now c.face_rows-w.new.dst c.face_rows-w.result = let
+    g = c.args.g in let face = c.loop-face.face in carry c.requires.fit.room (omega arith) (face_later g (omega arith))
+    c.loop-face.invariant.1 (respell refl (face-next g face) refl c.face_rows-w.ensures) in (
+      omega (arith, c.loop-face-test.true),
+      respell refl refl c.in-On.is moved,
+    )
 
 pub shape_of-dst : goal.shape_of-dst
 shape_of-dst c = c.loop-face.invariant.1.long

@@ -13,23 +13,28 @@ returns-then-not-within_limits c = needed_2 dds_of c.args.header (sym c.within_l
 
 pub returns-then-not-goes_out : goal.returns-then-not-goes_out
 returns-then-not-goes_out c =
-    needed_16 dds_of c.args.header ((let it : within_limits c.args.header ≡ true =
-    (sym c.within_limits.ensures ∙ c.if-not-within_limits.false) in it)) (sym c.goes_out.ensures
+    let within : within_limits c.args.header ≡ true = sym c.within_limits.ensures ∙ c.if-not-within_limits.false in
+    needed_16 dds_of c.args.header within (sym c.goes_out.ensures
     ∙ c.if-not-goes_out.true)
 
 pub chain_bytes-requires : goal.chain_bytes-requires
-chain_bytes-requires c = (let it : within_limits c.args.header ≡ true = (sym c.within_limits.ensures ∙ c.if-not-within_limits.false) in it)
+chain_bytes-requires c =
+    let within : within_limits c.args.header ≡ true = sym c.within_limits.ensures ∙ c.if-not-within_limits.false in
+    within
 
 pub total_of-requires : goal.total_of-requires
-total_of-requires c = record {
-  within_limits = (let it : within_limits c.args.header ≡ true =
-      (sym c.within_limits.ensures ∙ c.if-not-within_limits.false) in it);
-  chain_same = c.chain_bytes.ensures;
-}
+total_of-requires c =
+    let within : within_limits c.args.header ≡ true = sym c.within_limits.ensures ∙ c.if-not-within_limits.false in
+    record {
+      within_limits = within;
+      chain_same = c.chain_bytes.ensures;
+    }
 
 pub returns : goal.returns
 returns c =
+    let within : within_limits c.args.header ≡ true = sym c.within_limits.ensures ∙ c.if-not-within_limits.false in
+    let out : goes_out c.args.header.format ≡ true = sym c.goes_out.ensures ∙ c.if-not-goes_out.false in
     let h = c.args.header in
-    needed_so dds_of h ((let it : within_limits c.args.header ≡ true = (sym c.within_limits.ensures ∙ c.if-not-within_limits.false) in it))
-    ((let it : goes_out c.args.header.format ≡ true = (sym c.goes_out.ensures ∙ c.if-not-goes_out.false) in it))
+    needed_so dds_of h within
+    out
     (c.total_of.ensures ∙ ap (λ (n : ℕ). head_bytes + h.faces * n) c.chain_bytes.ensures)

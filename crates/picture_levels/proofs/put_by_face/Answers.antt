@@ -44,74 +44,66 @@ loop-level-init c =
     }
 
 pub slice_bounds-unpack_made-count : goal.slice_bounds-unpack_made-count
-slice_bounds-unpack_made-count c = omega (
-  arith,
-  ((let it : Here c.args.h c.loop-level.from c.level_sizes-z.result.distance
-      c.level_sizes-z.result.symbols c.loop-level.level (length c.loop-level.dst) = (let within = c.requires.tabled.made.within in
-      let number : c.loop-level.level < c.args.h.levels = omega (arith, c.loop-level-test.true) in
-      record {
-        number = number;
-        bytes = distance_so c.args.h within c.loop-level.level number c.level_sizes-z.ensures;
-        room =
-            room_for c.args.h within c.args.head (length c.loop-level.dst) c.requires.step_same
-            (omega (arith, c.requires.room, c.loop-level.invariant.long))
-            c.loop-level.invariant.place
-            number;
-        few = symbols-few c.args.h c.loop-level.level within (lt-ltb _ _ number) c.level_sizes-z.ensures;
-        levels = (limited c.args.h within).levels;
-      }) in it)).room,
-)
+slice_bounds-unpack_made-count c =
+    let here : Here c.args.h c.loop-level.from c.level_sizes-z.result.distance c.level_sizes-z.result.symbols c.loop-level.level
+    (length c.loop-level.dst) = let within = c.requires.tabled.made.within in let number : c.loop-level.level < c.args.h.levels = omega
+    (arith, c.loop-level-test.true) in record {
+      number = number;
+      bytes = distance_so c.args.h within c.loop-level.level number
+          c.level_sizes-z.ensures;
+      room = room_for c.args.h within c.args.head (length c.loop-level.dst) c.requires.step_same
+          (omega (arith, c.requires.room, c.loop-level.invariant.long)) c.loop-level.invariant.place number;
+      few = symbols-few c.args.h
+          c.loop-level.level within (lt-ltb _ _ number) c.level_sizes-z.ensures;
+      levels = (limited c.args.h within).levels;
+    } in
+    omega (arith, here.room)
 
 pub slice_bounds-unpack_made-start : goal.slice_bounds-unpack_made-start
-slice_bounds-unpack_made-start c = omega (
-  arith,
-  ((let it : Here c.args.h c.loop-level.from c.level_sizes-z.result.distance
-      c.level_sizes-z.result.symbols c.loop-level.level (length c.loop-level.dst) = (let within = c.requires.tabled.made.within in
-      let number : c.loop-level.level < c.args.h.levels = omega (arith, c.loop-level-test.true) in
-      record {
-        number = number;
-        bytes = distance_so c.args.h within c.loop-level.level number c.level_sizes-z.ensures;
-        room =
-            room_for c.args.h within c.args.head (length c.loop-level.dst) c.requires.step_same
-            (omega (arith, c.requires.room, c.loop-level.invariant.long))
-            c.loop-level.invariant.place
-            number;
-        few = symbols-few c.args.h c.loop-level.level within (lt-ltb _ _ number) c.level_sizes-z.ensures;
-        levels = (limited c.args.h within).levels;
-      }) in it)).room,
-)
+slice_bounds-unpack_made-start c =
+    let here : Here c.args.h c.loop-level.from c.level_sizes-z.result.distance c.level_sizes-z.result.symbols c.loop-level.level
+    (length c.loop-level.dst) = let within = c.requires.tabled.made.within in let number : c.loop-level.level < c.args.h.levels = omega
+    (arith, c.loop-level-test.true) in record {
+      number = number;
+      bytes = distance_so c.args.h within c.loop-level.level number
+          c.level_sizes-z.ensures;
+      room = room_for c.args.h within c.args.head (length c.loop-level.dst) c.requires.step_same
+          (omega (arith, c.requires.room, c.loop-level.invariant.long)) c.loop-level.invariant.place number;
+      few = symbols-few c.args.h
+          c.loop-level.level within (lt-ltb _ _ number) c.level_sizes-z.ensures;
+      levels = (limited c.args.h within).levels;
+    } in
+    omega (arith, here.room)
 
 pub slice_bounds-unpack_made-end : goal.slice_bounds-unpack_made-end
-slice_bounds-unpack_made-end c = omega (
-  arith,
-  ((let it : Here c.args.h c.loop-level.from c.level_sizes-z.result.distance
-      c.level_sizes-z.result.symbols c.loop-level.level (length c.loop-level.dst) = (let within = c.requires.tabled.made.within in
-      let number : c.loop-level.level < c.args.h.levels = omega (arith, c.loop-level-test.true) in
-      record {
-        number = number;
-        bytes = distance_so c.args.h within c.loop-level.level number c.level_sizes-z.ensures;
-        room =
-            room_for c.args.h within c.args.head (length c.loop-level.dst) c.requires.step_same
-            (omega (arith, c.requires.room, c.loop-level.invariant.long))
-            c.loop-level.invariant.place
-            number;
-        few = symbols-few c.args.h c.loop-level.level within (lt-ltb _ _ number) c.level_sizes-z.ensures;
-        levels = (limited c.args.h within).levels;
-      }) in it)).room,
-)
+slice_bounds-unpack_made-end c =
+    let here : Here c.args.h c.loop-level.from c.level_sizes-z.result.distance c.level_sizes-z.result.symbols c.loop-level.level
+    (length c.loop-level.dst) = let within = c.requires.tabled.made.within in let number : c.loop-level.level < c.args.h.levels = omega
+    (arith, c.loop-level-test.true) in record {
+      number = number;
+      bytes = distance_so c.args.h within c.loop-level.level number
+          c.level_sizes-z.ensures;
+      room = room_for c.args.h within c.args.head (length c.loop-level.dst) c.requires.step_same
+          (omega (arith, c.requires.room, c.loop-level.invariant.long)) c.loop-level.invariant.place number;
+      few = symbols-few c.args.h
+          c.loop-level.level within (lt-ltb _ _ number) c.level_sizes-z.ensures;
+      levels = (limited c.args.h within).levels;
+    } in
+    omega (arith, here.room)
 
 pub unpack_made-u-requires : goal.unpack_made-u-requires
 unpack_made-u-requires c = c.requires.tabled
 
 pub overflow_sub-symbols : goal.overflow_sub-symbols
-overflow_sub-symbols c = omega (
-  arith,
-  (let it : c.unpack_made-u.new.budget ≤ c.level_sizes-z.result.symbols =
-      (omega (arith, (c.unpack_made-u.ensures c.requires.tabled.of c.requires.tabled.made).spent)) in it),
-)
+overflow_sub-symbols c =
+    let spent : c.unpack_made-u.new.budget ≤ c.level_sizes-z.result.symbols = omega
+    (arith, (c.unpack_made-u.ensures c.requires.tabled.of c.requires.tabled.made).spent) in
+    omega (arith, spent)
 
 pub overflow_add-symbols : goal.overflow_add-symbols
 overflow_add-symbols c =
+    let spent : c.unpack_made-u.new.budget ≤ c.level_sizes-z.result.symbols = omega
+    (arith, (c.unpack_made-u.ensures c.requires.tabled.of c.requires.tabled.made).spent) in
     let w : Here c.args.h c.loop-level.from c.level_sizes-z.result.distance c.level_sizes-z.result.symbols c.loop-level.level
     (length c.loop-level.dst) = let within = c.requires.tabled.made.within in
     let number : c.loop-level.level < c.args.h.levels = omega (arith, c.loop-level-test.true) in
@@ -126,40 +118,31 @@ overflow_add-symbols c =
       few = symbols-few c.args.h c.loop-level.level within (lt-ltb _ _ number) c.level_sizes-z.ensures;
       levels = (limited c.args.h within).levels;
     } in
-    omega (
-      arith,
-      (let it : c.unpack_made-u.new.budget ≤ c.level_sizes-z.result.symbols =
-          (omega (arith, (c.unpack_made-u.ensures c.requires.tabled.of c.requires.tabled.made).spent)) in it),
-      c.loop-level.invariant.drawn,
-      w.few,
-      w.levels,
-      w.number,
-    )
+    omega (arith, spent, c.loop-level.invariant.drawn, w.few, w.levels, w.number)
 
 pub shape_of-dst-in_default : goal.shape_of-dst-in_default
-shape_of-dst-in_default c = c.clear.auto.dst ∙ (let it : length (put_mid c.loop-level.from (length c.loop-level.dst - c.loop-level.from)
-    c.loop-level.dst c.unpack_made-u.new.dst) ≡ length c.args.dst.now =
-    (same_len_mid c.loop-level.from (length c.loop-level.dst - c.loop-level.from) c.loop-level.dst c.unpack_made-u.new.dst
-    c.unpack_made-u.auto.dst ∙ c.loop-level.invariant.long) in it)
+shape_of-dst-in_default c =
+    let kept : length (put_mid c.loop-level.from (length c.loop-level.dst - c.loop-level.from) c.loop-level.dst c.unpack_made-u.new.dst) ≡
+    length c.args.dst.now = same_len_mid c.loop-level.from (length c.loop-level.dst - c.loop-level.from) c.loop-level.dst
+    c.unpack_made-u.new.dst c.unpack_made-u.auto.dst ∙ c.loop-level.invariant.long in
+    c.clear.auto.dst ∙ kept
 
 pub returns-in_default : goal.returns-in_default
 returns-in_default c =
+    let kept : length (put_mid c.loop-level.from (length c.loop-level.dst - c.loop-level.from) c.loop-level.dst c.unpack_made-u.new.dst) ≡
+    length c.args.dst.now = same_len_mid c.loop-level.from (length c.loop-level.dst - c.loop-level.from) c.loop-level.dst
+    c.unpack_made-u.new.dst c.unpack_made-u.auto.dst ∙ c.loop-level.invariant.long in
     λ t m.
     not_in c.args.dst.now (put_mid c.loop-level.from (length c.loop-level.dst - c.loop-level.from) c.loop-level.dst
     c.unpack_made-u.new.dst)
     (c.refused.ensures ∙ ap (λ (u : Unpacked). refused_by u c.loop-level.level (c.loop-level.symbols + (c.level_sizes-z.result.symbols
     - c.unpack_made-u.new.budget))) c.in_default.is)
     (sym (off (by_face c.args.head (picture_of c.args.h)) (record_with c.args.h t) _ _ c.loop-level.level _ c.loop-level.dst
-    (c.args.h.levels - (c.loop-level.level + 1)) (omega (
-      arith,
-      c.loop-level-test.true,
-    )) c.level_sizes-z.ensures c.loop-level.invariant.place
+    (c.args.h.levels - (c.loop-level.level + 1)) (omega (arith, c.loop-level-test.true)) c.level_sizes-z.ensures
+    c.loop-level.invariant.place
     (rest-whole c.loop-level.from c.loop-level.dst) c.requires.step_same (rw c.in_default.is at (c.unpack_made-u.ensures t m))) ∙
     c.loop-level.invariant.goes t m)
-    c.clear.ensures ((let it : length (put_mid c.loop-level.from (length c.loop-level.dst - c.loop-level.from) c.loop-level.dst
-    c.unpack_made-u.new.dst) ≡ length c.args.dst.now = (same_len_mid c.loop-level.from (length c.loop-level.dst - c.loop-level.from)
-    c.loop-level.dst c.unpack_made-u.new.dst
-    c.unpack_made-u.auto.dst ∙ c.loop-level.invariant.long) in it))
+    c.clear.ensures kept
 
 pub overflow_add-level : goal.overflow_add-level
 overflow_add-level c = let w : Here c.args.h c.loop-level.from c.level_sizes-z.result.distance c.level_sizes-z.result.symbols
@@ -203,6 +186,8 @@ overflow_add-from c =
 
 pub overflow_add-cutouts : goal.overflow_add-cutouts
 overflow_add-cutouts c =
+    let few_2 : c.in-Blocks.cut ≤ most_cutouts = few_cuts (record_with c.args.h c.requires.tabled.of) _ _ _ _ _ _ _
+    (rw c.in-Blocks.is at (c.unpack_made-u.ensures c.requires.tabled.of c.requires.tabled.made)) in
     let w : Here c.args.h c.loop-level.from c.level_sizes-z.result.distance c.level_sizes-z.result.symbols c.loop-level.level
     (length c.loop-level.dst) = let within = c.requires.tabled.made.within in
     let number : c.loop-level.level < c.args.h.levels = omega (arith, c.loop-level-test.true) in
@@ -217,21 +202,18 @@ overflow_add-cutouts c =
       few = symbols-few c.args.h c.loop-level.level within (lt-ltb _ _ number) c.level_sizes-z.ensures;
       levels = (limited c.args.h within).levels;
     } in
-    omega (
-      arith,
-      (let it : c.in-Blocks.cut ≤ most_cutouts = (few_cuts (record_with c.args.h c.requires.tabled.of) _ _ _ _ _ _ _
-          (rw c.in-Blocks.is at (c.unpack_made-u.ensures
-          c.requires.tabled.of c.requires.tabled.made))) in it),
-      c.loop-level.invariant.cut,
-      w.number,
-      w.levels,
-    )
+    omega (arith, few_2, c.loop-level.invariant.cut, w.number, w.levels)
 
 pub loop-level-smaller : goal.loop-level-smaller
 loop-level-smaller c = omega (arith, c.loop-level-test.true)
 
 pub loop-level-preserved : goal.loop-level-preserved
 loop-level-preserved c =
+    let kept : length (put_mid c.loop-level.from (length c.loop-level.dst - c.loop-level.from) c.loop-level.dst c.unpack_made-u.new.dst) ≡
+    length c.args.dst.now = same_len_mid c.loop-level.from (length c.loop-level.dst - c.loop-level.from) c.loop-level.dst
+    c.unpack_made-u.new.dst c.unpack_made-u.auto.dst ∙ c.loop-level.invariant.long in
+    let few_2 : c.in-Blocks.cut ≤ most_cutouts = few_cuts (record_with c.args.h c.requires.tabled.of) _ _ _ _ _ _ _
+    (rw c.in-Blocks.is at (c.unpack_made-u.ensures c.requires.tabled.of c.requires.tabled.made)) in
     let w : Here c.args.h c.loop-level.from c.level_sizes-z.result.distance c.level_sizes-z.result.symbols c.loop-level.level
     (length c.loop-level.dst) = let within = c.requires.tabled.made.within in
     let number : c.loop-level.level < c.args.h.levels = omega (arith, c.loop-level-test.true) in
@@ -249,19 +231,9 @@ loop-level-preserved c =
     record {
       few = omega (arith, w.number);
       place = omega (arith, c.loop-level.invariant.place, w.bytes, chain-after (picture_of c.args.h) c.loop-level.level);
-      long = (let it : length (put_mid c.loop-level.from (length c.loop-level.dst - c.loop-level.from) c.loop-level.dst
-          c.unpack_made-u.new.dst) ≡ length c.args.dst.now = (same_len_mid c.loop-level.from (length c.loop-level.dst - c.loop-level.from)
-          c.loop-level.dst c.unpack_made-u.new.dst
-          c.unpack_made-u.auto.dst ∙ c.loop-level.invariant.long) in it);
+      long = kept;
       drawn = omega (arith, c.loop-level.invariant.drawn, w.few);
-      cut = omega (
-        arith,
-        c.loop-level.invariant.cut,
-        (let it : c.in-Blocks.cut ≤ most_cutouts =
-            (few_cuts (record_with c.args.h c.requires.tabled.of) _ _ _ _ _ _ _
-            (rw c.in-Blocks.is at (c.unpack_made-u.ensures
-            c.requires.tabled.of c.requires.tabled.made))) in it),
-      );
+      cut = omega (arith, c.loop-level.invariant.cut, few_2);
       goes = λ t m.
           sym (on (by_face c.args.head (picture_of c.args.h)) (record_with c.args.h t) _ _ c.loop-level.level _ c.loop-level.dst
           (c.args.h.levels - (c.loop-level.level + 1)) (omega (arith, w.number)) c.level_sizes-z.ensures c.loop-level.invariant.place

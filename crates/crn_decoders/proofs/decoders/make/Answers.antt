@@ -9,74 +9,68 @@ use Rattle.crn_decoders.proofs.Made.{place_in, one_more}
 use Rattle.crn_decoders.proofs.decoders.make.Goals as goal
 
 pub overflow_mul-from : goal.overflow_mul-from
-overflow_mul-from c = omega (
-  arith,
-  (let it : c.args.k * c.args.s.lookup_step + c.args.s.lookup_step ≤ length c.args.lookup.now =
-      (place_in _ _ _ c.requires.able.lookups c.requires.k_in) in it),
-)
+overflow_mul-from c =
+    let lookup_at : c.args.k * c.args.s.lookup_step + c.args.s.lookup_step ≤ length c.args.lookup.now = place_in _ _ _
+    c.requires.able.lookups c.requires.k_in in
+    omega (arith, lookup_at)
 
 pub overflow_add-to : goal.overflow_add-to
-overflow_add-to c = omega (
-  arith,
-  (let it : c.args.k * c.args.s.lookup_step + c.args.s.lookup_step ≤ length c.args.lookup.now =
-      (place_in _ _ _ c.requires.able.lookups c.requires.k_in) in it),
-)
+overflow_add-to c =
+    let lookup_at : c.args.k * c.args.s.lookup_step + c.args.s.lookup_step ≤ length c.args.lookup.now = place_in _ _ _
+    c.requires.able.lookups c.requires.k_in in
+    omega (arith, lookup_at)
 
 pub overflow_mul-first : goal.overflow_mul-first
-overflow_mul-first c = omega (
-  arith,
-  (let it : c.args.k * c.args.s.sorted_step + c.args.s.sorted_step ≤ length c.args.sorted.now =
-      (place_in _ _ _ c.requires.able.sorteds c.requires.k_in) in it),
-)
+overflow_mul-first c =
+    let sorted_at : c.args.k * c.args.s.sorted_step + c.args.s.sorted_step ≤ length c.args.sorted.now = place_in _ _ _
+    c.requires.able.sorteds c.requires.k_in in
+    omega (arith, sorted_at)
 
 pub overflow_add-last : goal.overflow_add-last
-overflow_add-last c = omega (
-  arith,
-  (let it : c.args.k * c.args.s.sorted_step + c.args.s.sorted_step ≤ length c.args.sorted.now =
-      (place_in _ _ _ c.requires.able.sorteds c.requires.k_in) in it),
-)
+overflow_add-last c =
+    let sorted_at : c.args.k * c.args.s.sorted_step + c.args.s.sorted_step ≤ length c.args.sorted.now = place_in _ _ _
+    c.requires.able.sorteds c.requires.k_in in
+    omega (arith, sorted_at)
 
 pub slice_bounds-build-end : goal.slice_bounds-build-end
 slice_bounds-build-end c = sym (length-take-le _ _ c.requires.fair.inside)
 
 pub offset_bounds-lookup-from : goal.offset_bounds-lookup-from
-offset_bounds-lookup-from c = omega (
-  arith,
-  (let it : c.args.k * c.args.s.lookup_step + c.args.s.lookup_step ≤ length c.args.lookup.now =
-      (place_in _ _ _ c.requires.able.lookups c.requires.k_in) in it),
-)
+offset_bounds-lookup-from c =
+    let lookup_at : c.args.k * c.args.s.lookup_step + c.args.s.lookup_step ≤ length c.args.lookup.now = place_in _ _ _
+    c.requires.able.lookups c.requires.k_in in
+    omega (arith, lookup_at)
 
 pub slice_bounds-build-end-2 : goal.slice_bounds-build-end-2
-slice_bounds-build-end-2 c = omega (
-  arith,
-  (let it : c.args.k * c.args.s.lookup_step + c.args.s.lookup_step ≤ length c.args.lookup.now =
-      (place_in _ _ _ c.requires.able.lookups c.requires.k_in) in it),
-)
+slice_bounds-build-end-2 c =
+    let lookup_at : c.args.k * c.args.s.lookup_step + c.args.s.lookup_step ≤ length c.args.lookup.now = place_in _ _ _
+    c.requires.able.lookups c.requires.k_in in
+    omega (arith, lookup_at)
 
 pub offset_bounds-sorted-first : goal.offset_bounds-sorted-first
-offset_bounds-sorted-first c = omega (
-  arith,
-  (let it : c.args.k * c.args.s.sorted_step + c.args.s.sorted_step ≤ length c.args.sorted.now =
-      (place_in _ _ _ c.requires.able.sorteds c.requires.k_in) in it),
-)
+offset_bounds-sorted-first c =
+    let sorted_at : c.args.k * c.args.s.sorted_step + c.args.s.sorted_step ≤ length c.args.sorted.now = place_in _ _ _
+    c.requires.able.sorteds c.requires.k_in in
+    omega (arith, sorted_at)
 
 pub slice_bounds-build-end-3 : goal.slice_bounds-build-end-3
-slice_bounds-build-end-3 c = omega (
-  arith,
-  (let it : c.args.k * c.args.s.sorted_step + c.args.s.sorted_step ≤ length c.args.sorted.now =
-      (place_in _ _ _ c.requires.able.sorteds c.requires.k_in) in it),
-)
+slice_bounds-build-end-3 c =
+    let sorted_at : c.args.k * c.args.s.sorted_step + c.args.s.sorted_step ≤ length c.args.sorted.now = place_in _ _ _
+    c.requires.able.sorteds c.requires.k_in in
+    omega (arith, sorted_at)
 
 pub build-requires : goal.build-requires
 build-requires c =
+    let lookup_at : c.args.k * c.args.s.lookup_step + c.args.s.lookup_step ≤ length c.args.lookup.now = place_in _ _ _
+    c.requires.able.lookups c.requires.k_in in
+    let sorted_at : c.args.k * c.args.s.sorted_step + c.args.s.sorted_step ≤ length c.args.sorted.now = place_in _ _ _
+    c.requires.able.sorteds c.requires.k_in in
     let l : length (take c.args.count c.args.lengths.now) ≡ c.args.count = length-take-le c.args.count c.args.lengths.now
     c.requires.fair.inside in
     let m = taken-long c.args.s.lookup_step c.args.lookup.now c.args.k
-    ((let it : c.args.k * c.args.s.lookup_step + c.args.s.lookup_step ≤ length c.args.lookup.now =
-    (place_in _ _ _ c.requires.able.lookups c.requires.k_in) in it)) in
+    lookup_at in
     let n = taken-long c.args.s.sorted_step c.args.sorted.now c.args.k
-    ((let it : c.args.k * c.args.s.sorted_step + c.args.s.sorted_step ≤ length c.args.sorted.now =
-    (place_in _ _ _ c.requires.able.sorteds c.requires.k_in) in it)) in
+    sorted_at in
     record {
       lengths_len_bound = (omega (arith, l, c.requires.fair.few), c.requires.fair.short);
       most_nonzero =
@@ -85,15 +79,15 @@ build-requires c =
 
 pub returns : goal.returns
 returns c =
+    let lookup_at : c.args.k * c.args.s.lookup_step + c.args.s.lookup_step ≤ length c.args.lookup.now = place_in _ _ _
+    c.requires.able.lookups c.requires.k_in in
+    let sorted_at : c.args.k * c.args.s.sorted_step + c.args.s.sorted_step ≤ length c.args.sorted.now = place_in _ _ _
+    c.requires.able.sorteds c.requires.k_in in
     λ cs e coded.
     one_more cs c.args.k c.args.s c.args.lookup.now c.args.sorted.now c.build.new.lookup _ c.build.new.sorted _
-    ((let it : c.args.k * c.args.s.lookup_step + c.args.s.lookup_step ≤ length c.args.lookup.now =
-    (place_in _ _ _ c.requires.able.lookups c.requires.k_in) in it))
-    ((let it : c.args.k * c.args.s.sorted_step + c.args.s.sorted_step ≤ length c.args.sorted.now =
-    (place_in _ _ _ c.requires.able.sorteds c.requires.k_in) in it))
+    lookup_at
+    sorted_at
     (c.build.auto.lookup ∙ taken-long c.args.s.lookup_step c.args.lookup.now c.args.k
-    ((let it : c.args.k * c.args.s.lookup_step + c.args.s.lookup_step ≤ length c.args.lookup.now =
-    (place_in _ _ _ c.requires.able.lookups c.requires.k_in) in it)))
+    lookup_at)
     (c.build.auto.sorted ∙ taken-long c.args.s.sorted_step c.args.sorted.now c.args.k
-    ((let it : c.args.k * c.args.s.sorted_step + c.args.s.sorted_step ≤ length c.args.sorted.now =
-    (place_in _ _ _ c.requires.able.sorteds c.requires.k_in) in it))) e c.build.ensures coded
+    sorted_at) e c.build.ensures coded

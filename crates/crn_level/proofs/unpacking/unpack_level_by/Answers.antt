@@ -19,15 +19,15 @@ segment_of-requires c =
 
 pub draw_level-requires : goal.draw_level-requires
 draw_level-requires c =
+    let long_2 : Long ((record_by c.args.header c.args.counts c.args.chunk.now c.args.color_ends.now c.args.color_sels.now
+    c.args.alpha_ends.now c.args.alpha_sels.now)).tables = search rules in
     record {
       checked = all-checked ((record_by c.args.header c.args.counts c.args.chunk.now c.args.color_ends.now c.args.color_sels.now
           c.args.alpha_ends.now
           c.args.alpha_sels.now)) _ _ _ _ _ (length c.args.dst.now) c.tables_hold-tables.ensures c.refusal-number.ensures
           c.if-number-ne0.false
           c.segment_of.ensures.1 c.grid_of-g.ensures;
-      long = (let it : Long
-          ((record_by c.args.header c.args.counts c.args.chunk.now c.args.color_ends.now c.args.color_sels.now c.args.alpha_ends.now
-          c.args.alpha_sels.now)).tables = (search rules) in it);
+      long = long_2;
     }
 
 pub returns : goal.returns

@@ -19,12 +19,13 @@ segment_of-requires c =
 
 pub draw_chunks-requires : goal.draw_chunks-requires
 draw_chunks-requires c =
-    fit_by (record_with c.args.header c.requires.of) _ _ _ _ _ _ _ _ _
-    ((let it : Checked (record_with c.args.header c.requires.of) c.segment_of.result.now
+    let passed : Checked (record_with c.args.header c.requires.of) c.segment_of.result.now
     (lent_of c.args.color_endpoints.now c.args.color_selectors.now c.args.alpha_endpoints.now c.args.alpha_selectors.now)
-    c.grid_of-g.result (length c.args.dst.now) = (let m : Made (record_with c.args.header c.requires.of) c.args.s c.args.lookup.now
+    c.grid_of-g.result (length c.args.dst.now) = let m : Made (record_with c.args.header c.requires.of) c.args.s c.args.lookup.now
     c.args.sorted.now = c.requires.made in all-checked (record_with c.args.header c.requires.of) _ _ _ _ _ _ (sym m.tables)
-    c.refusal-failed.ensures c.if-failed-ne0.false c.segment_of.ensures.1 c.grid_of-g.ensures) in it)) c.requires.made.able
+    c.refusal-failed.ensures c.if-failed-ne0.false c.segment_of.ensures.1 c.grid_of-g.ensures in
+    fit_by (record_with c.args.header c.requires.of) _ _ _ _ _ _ _ _ _
+    passed c.requires.made.able
     c.requires.made.coded c.planes_of.ensures
 
 pub returns : goal.returns

@@ -34,17 +34,14 @@ shape_of-dst-in_default c = c.chunk-w.auto.dst ∙ c.loop-k.invariant.1.long
 
 pub returns-in_default : goal.returns-in_default
 returns-in_default c =
+    let moved : Goes ((let a = c.args in given a.lookup.now a.sorted.now a.seg.now a.cends.now a.csels.now a.aends.now a.asels.now a.ps
+    a.g)) ((row_start c.args.g c.args.face c.args.cy)) ((row_start c.args.g c.args.face c.args.cy) + (c.loop-k.k + 1)) c.args.r c.args.s
+    c.args.dst.now c.chunk-w.new.dst c.chunk-w.result = let k = c.loop-k.k in let cx = c.column-cx.result in let e : chunk_number
+    c.args.g c.args.face cx c.args.cy ≡ (row_start c.args.g c.args.face c.args.cy) + k = chunk-number c.args.g c.args.face k c.args.cy
+    cx c.args.turned c.requires.row_in.2 c.loop-k-test.true c.column-cx.ensures in carry c.requires.fit.room (omega arith) (omega arith)
+    c.loop-k.invariant.1 (respell e (omega (arith, e)) refl c.chunk-w.ensures) in
     stop-early (omega (arith, row_next c.args.g c.args.face c.args.cy, c.loop-k-test.true)) c.in_default.is
-    ((let it : Goes ((let a = c.args in
-    given a.lookup.now a.sorted.now a.seg.now a.cends.now a.csels.now a.aends.now a.asels.now a.ps a.g))
-    ((row_start c.args.g c.args.face c.args.cy)) ((row_start c.args.g c.args.face c.args.cy) + (c.loop-k.k + 1)) c.args.r c.args.s
-    c.args.dst.now c.chunk-w.new.dst c.chunk-w.result = (let k = c.loop-k.k in
-    let cx = c.column-cx.result in
-    let e : chunk_number c.args.g c.args.face cx c.args.cy ≡ (row_start c.args.g c.args.face c.args.cy) + k =
-    chunk-number c.args.g c.args.face k c.args.cy cx c.args.turned c.requires.row_in.2 c.loop-k-test.true
-    c.column-cx.ensures in
-    carry c.requires.fit.room (omega arith) (omega arith) c.loop-k.invariant.1
-    (respell e (omega (arith, e)) refl c.chunk-w.ensures)) in it))
+    moved
 
 pub overflow_add-k : goal.overflow_add-k
 overflow_add-k c = omega (arith, c.loop-k-test.true, c.requires.fit.room.few_columns)
@@ -53,19 +50,16 @@ pub loop-k-smaller : goal.loop-k-smaller
 loop-k-smaller c = omega (arith, c.loop-k-test.true)
 
 pub loop-k-preserved : goal.loop-k-preserved
-loop-k-preserved c = (
-  omega (arith, c.loop-k-test.true),
-  respell refl refl c.in-On.is ((let it : Goes ((let a = c.args in
-      given a.lookup.now a.sorted.now a.seg.now a.cends.now a.csels.now a.aends.now a.asels.now a.ps a.g))
-      ((row_start c.args.g c.args.face c.args.cy)) ((row_start c.args.g c.args.face c.args.cy) + (c.loop-k.k + 1)) c.args.r c.args.s
-      c.args.dst.now c.chunk-w.new.dst c.chunk-w.result = (let k = c.loop-k.k in
-      let cx = c.column-cx.result in
-      let e : chunk_number c.args.g c.args.face cx c.args.cy ≡ (row_start c.args.g c.args.face c.args.cy) + k =
-      chunk-number c.args.g c.args.face k c.args.cy cx c.args.turned c.requires.row_in.2 c.loop-k-test.true
-      c.column-cx.ensures in
-      carry c.requires.fit.room (omega arith) (omega arith) c.loop-k.invariant.1
-      (respell e (omega (arith, e)) refl c.chunk-w.ensures)) in it)),
-)
+loop-k-preserved c =
+    let moved : Goes ((let a = c.args in given a.lookup.now a.sorted.now a.seg.now a.cends.now a.csels.now a.aends.now a.asels.now a.ps
+    a.g)) ((row_start c.args.g c.args.face c.args.cy)) ((row_start c.args.g c.args.face c.args.cy) + (c.loop-k.k + 1)) c.args.r c.args.s
+    c.args.dst.now c.chunk-w.new.dst c.chunk-w.result = let k = c.loop-k.k in let cx = c.column-cx.result in let e : chunk_number
+    c.args.g c.args.face cx c.args.cy ≡ (row_start c.args.g c.args.face c.args.cy) + k = chunk-number c.args.g c.args.face k c.args.cy
+    cx c.args.turned c.requires.row_in.2 c.loop-k-test.true c.column-cx.ensures in carry c.requires.fit.room (omega arith) (omega arith)
+    c.loop-k.invariant.1 (respell e (omega (arith, e)) refl c.chunk-w.ensures) in (
+      omega (arith, c.loop-k-test.true),
+      respell refl refl c.in-On.is moved,
+    )
 
 pub shape_of-dst : goal.shape_of-dst
 shape_of-dst c = c.loop-k.invariant.1.long
