@@ -11,7 +11,7 @@ use Rattle.crn_format.specs.Header.{DXT1, DXT5, DXT5A, DXN, kind_of, known}
 use Rattle.crn_utils.specs.Little.{little_at}
 use Rattle.crn_formats.proofs.ByFormat.{by_format}
 use Rattle.bcn_format.specs.Channels.{byte}
-use Rattle.bcn_format.specs.Blocks.{selector, red, green, blue, shade, first_word, secondWord, colorSelector, levelAt, texel}
+use Rattle.bcn_format.specs.Blocks.{selector, red, green, blue, shade, first_word, second_word, color_selector, level_at, texel}
 use Rattle.bcn_format.specs.Packed.{packed}
 use Rattle.bcn_format.proofs.Near.{sound_small}
 use Rattle.bcn_format.proofs.Sound.{shade_sound, cover_sound, level_sound}
@@ -43,13 +43,13 @@ six-little b at =
 -- texel t's channels of colour
 module _ (four : Bool) (bs : List ℕ) (at t : ℕ) where
   abbrev reds : ℕ
-  reds = byte (shade four red (first_word bs at) (secondWord bs at) (colorSelector bs at t))
+  reds = byte (shade four red (first_word bs at) (second_word bs at) (color_selector bs at t))
 
   abbrev greens : ℕ
-  greens = byte (shade four green (first_word bs at) (secondWord bs at) (colorSelector bs at t))
+  greens = byte (shade four green (first_word bs at) (second_word bs at) (color_selector bs at t))
 
   abbrev blues : ℕ
-  blues = byte (shade four blue (first_word bs at) (secondWord bs at) (colorSelector bs at t))
+  blues = byte (shade four blue (first_word bs at) (second_word bs at) (color_selector bs at t))
 
   reds-small : reds < 256
   reds-small = sound_small (shade_sound four red _ _ _ (inl refl) (omega arith))
@@ -62,22 +62,22 @@ module _ (four : Bool) (bs : List ℕ) (at t : ℕ) where
 
   colors-there : (alpha : ℕ → ℕ) {half : ColorHalf} {table : List ℕ} {r : Sixteen} → ColorsAt bs at half
       → Palette four alpha half.first half.second table → Filled (chosen 2 table half.selectors) r → t < 16
-      → texel_at r t ≡ packed reds greens blues (alpha (colorSelector bs at t))
+      → texel_at r t ≡ packed reds greens blues (alpha (color_selector bs at t))
   colors-there alpha {half} {table} there palette f h =
       rw (f.each t h, there.selectors)
       (rw (there.selectors, there.first, there.second) at (palette.each (selector 2 half.selectors t) (omega arith)))
 
 -- texel t's level, in its place
 module _ (bs : List ℕ) (at t : ℕ) {half : LevelHalf} (there : LevelsAt bs at half) where
-  level-small : byte (levelAt bs at t) < 256
-  unfolding levelAt
+  level-small : byte (level_at bs at t) < 256
+  unfolding level_at
   level-small =
       sound_small (level_sound _ _ _ (rw there.first at there.first_small) (rw there.second at there.second-small)
       (omega arith))
 
   levels-there : {scale more : ℕ} {table : List ℕ} {r : Sixteen} → Levels half.first half.second scale more table
-      → Filled (chosen 3 table half.selectors) r → t < 16 → texel_at r t ≡ byte (levelAt bs at t) * scale + more
-  unfolding levelAt
+      → Filled (chosen 3 table half.selectors) r → t < 16 → texel_at r t ≡ byte (level_at bs at t) * scale + more
+  unfolding level_at
   levels-there levels f h =
       rw (f.each t h, there.selectors)
       (rw (there.selectors, there.first, there.second) at (levels.each (selector 3 half.selectors t) (omega arith)))
@@ -95,7 +95,7 @@ module _ (bs : List ℕ) (at : ℕ) {half : ColorHalf} {table : List ℕ} {r : S
     where
       by_order : (four : Bool) → Palette four (covered four) half.first half.second table → (t : ℕ) → t < 16
           → little 4 (texel_at r t)
-          ≡ reds four bs at t ∷ greens four bs at t ∷ blues four bs at t ∷ covered four (colorSelector bs at t) ∷ []
+          ≡ reds four bs at t ∷ greens four bs at t ∷ blues four bs at t ∷ covered four (color_selector bs at t) ∷ []
       by_order four p t h =
           ap (little 4) (colors-there four bs at t (covered four) there p f h)
           ∙ packed-bytes _ _ _ _ (reds-small four bs at t) (greens-small four bs at t) (blues-small four bs at t)
@@ -107,7 +107,7 @@ module _ (bs : List ℕ) (at : ℕ) {color : ColorHalf} {level : LevelHalf} {col
     (c-filled : Filled (chosen 2 colors color.selectors) c) (l-filled : Filled (chosen 3 alphas level.selectors) l) where
   bc3-sum : (t : ℕ) → t < 16
       → texel_at c t + texel_at l t ≡ packed (reds true bs (at + 8) t) (greens true bs (at + 8) t) (blues true bs (at + 8) t)
-      (byte (levelAt bs at t))
+      (byte (level_at bs at t))
   bc3-sum t h =
       rw (colors-there true bs (at + 8) t bare c-there palette c-filled h, levels-there bs at t l-there levels l-filled h) (omega arith)
 
@@ -147,14 +147,14 @@ module _ (bs : List ℕ) (at : ℕ) {half : LevelHalf} {table : List ℕ} {r : S
             ∙ packed-bytes _ 0 0 255 (level-small bs at t there) (omega arith) (omega arith) (omega arith);
       }
     where
-      in_place : (t : ℕ) → byte (levelAt bs at t) * 1 + 4278190080 ≡ packed (byte (levelAt bs at t)) 0 0 255
+      in_place : (t : ℕ) → byte (level_at bs at t) * 1 + 4278190080 ≡ packed (byte (level_at bs at t)) 0 0 255
       in_place t = omega arith
 
 module _ (bs : List ℕ) (at : ℕ) {red green : LevelHalf} {reds-of greens-of : List ℕ} {v w : Sixteen}
     (r-there : LevelsAt bs at red) (g-there : LevelsAt bs (at + 8) green)
     (r-levels : Levels red.first red.second 1 4278190080 reds-of) (g-levels : Levels green.first green.second 256 0 greens-of)
     (r-filled : Filled (chosen 3 reds-of red.selectors) v) (g-filled : Filled (chosen 3 greens-of green.selectors) w) where
-  bc5_sum : (t : ℕ) → t < 16 → texel_at v t + texel_at w t ≡ packed (byte (levelAt bs at t)) (byte (levelAt bs (at + 8) t)) 0 255
+  bc5_sum : (t : ℕ) → t < 16 → texel_at v t + texel_at w t ≡ packed (byte (level_at bs at t)) (byte (level_at bs (at + 8) t)) 0 255
   bc5_sum t h =
       rw (levels-there bs at t r-there r-levels r-filled h, levels-there bs (at + 8) t g-there g-levels g-filled h) (omega arith)
 

@@ -6,19 +6,19 @@ use lib.ListN.{length}
 use Rattle.crn_format.specs.Header.{Kind, DXT1, DXT5, DXT5A, DXN, kind_of}
 use Rattle.crn_utils.specs.Little.{little_at}
 use Rattle.bcn_format.specs.Channels.{byte, placed}
-use Rattle.bcn_format.specs.Blocks.{shade, cover, level, levelAt, texel}
+use Rattle.bcn_format.specs.Blocks.{shade, cover, level, level_at, texel}
 use Rattle.bcn_format.specs.Picture.{rgba, row_drawn, drawn, refusal, after}
 use Rattle.bcn_format.specs.declared.Face.{Face}
 
 -- the bytes of n texels of a block, from the t-th on
 block : Kind → List ℕ → ℕ → ℕ → List ℕ
-unfolding byte placed little_at shade cover level levelAt texel
+unfolding byte placed little_at shade cover level level_at texel
 block kind b zero t = []
 block kind b (suc n) t = map byte (texel b kind 0 t) ++ block kind b n (t + 1)
 
 -- the refusal and the buffer
 call : ℕ → ℕ → ℕ → ℕ → List ℕ → List ℕ → List ℕ
-unfolding byte placed little_at shade cover level levelAt texel kind_of rgba row_drawn drawn refusal after
+unfolding byte placed little_at shade cover level level_at texel kind_of rgba row_drawn drawn refusal after
 call format width height pitch bs d = refusal format s (length bs) (length d) ∷ after format s bs d
   where
     s : Face

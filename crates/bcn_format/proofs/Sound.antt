@@ -14,7 +14,7 @@ use lib.ListN.{get_or}
 use Rattle.crn_format.specs.Choice.{pick}
 use Rattle.crn_format.specs.Header.{Kind, DXT1, DXT5, DXT5A, DXN, unknown}
 use Rattle.bcn_format.specs.Channels.{Channel, none, exact, byte, placed, ramp, Near}
-use Rattle.bcn_format.specs.Blocks.{Part, red, green, blue, part_of, shade, cover, level, levelAt, texel}
+use Rattle.bcn_format.specs.Blocks.{Part, red, green, blue, part_of, shade, cover, level, level_at, texel}
 use Rattle.bcn_format.specs.Picture.{Bytes}
 use Rattle.bcn_format.proofs.Near.{Width, Sound, black, white, mixed, near}
 
@@ -71,8 +71,8 @@ each a b c d (suc (suc (suc zero))) = d
 each a b c d (suc (suc (suc (suc k)))) = black
 
 module _ (b : List ℕ) (bytes : Bytes b) (at t : ℕ) where
-  level-at : (from : ℕ) → Sound (levelAt b from t)
-  unfolding levelAt
+  level-at : (from : ℕ) → Sound (level_at b from t)
+  unfolding level_at
   level-at from = level_sound _ _ _ (bytes from) (bytes (from + 1)) (omega arith)
 
   colored : (four : Bool) (v w s : ℕ) {q : Channel} → Sound q

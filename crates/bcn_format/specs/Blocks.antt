@@ -53,25 +53,25 @@ module _ (b : List ℕ) where
   abbrev pub first_word : ℕ → ℕ
   first_word at = little_at b at 2
 
-  abbrev pub secondWord : ℕ → ℕ
-  secondWord at = little_at b (at + 2) 2
+  abbrev pub second_word : ℕ → ℕ
+  second_word at = little_at b (at + 2) 2
 
-  abbrev pub colorSelector : ℕ → ℕ → ℕ
-  colorSelector at t = selector 2 (little_at b (at + 4) 4) t
+  abbrev pub color_selector : ℕ → ℕ → ℕ
+  color_selector at t = selector 2 (little_at b (at + 4) 4) t
 
   -- and eight bytes of levels: texel t's
-  unfoldable pub levelAt : ℕ → ℕ → Channel
-  levelAt at t = level (get_or b at 0) (get_or b (at + 1) 0) (selector 3 (little_at b (at + 2) 6) t)
+  unfoldable pub level_at : ℕ → ℕ → Channel
+  level_at at t = level (get_or b at 0) (get_or b (at + 1) 0) (selector 3 (little_at b (at + 2) 6) t)
 
   -- red, green, blue and alpha: DXT1 as BC1 with alpha, whose words' order has the mode; DXT5 as BC3, which has the four-colour mode only;
   -- DXT5A as BC4; DXN as BC5
   unfoldable pub texel : Kind → ℕ → ℕ → List Channel
   texel DXT1 at t =
-      colors four (first_word at) (secondWord at) (colorSelector at t) ++ (cover four (colorSelector at t) ∷ [])
+      colors four (first_word at) (second_word at) (color_selector at t) ++ (cover four (color_selector at t) ∷ [])
     where
       four : Bool
-      four = ltb (secondWord at) (first_word at)
-  texel DXT5 at t = colors true (first_word (at + 8)) (secondWord (at + 8)) (colorSelector (at + 8) t) ++ (levelAt at t ∷ [])
-  texel DXT5A at t = levelAt at t ∷ none ∷ none ∷ full ∷ []
-  texel DXN at t = levelAt at t ∷ levelAt (at + 8) t ∷ none ∷ full ∷ []
+      four = ltb (second_word at) (first_word at)
+  texel DXT5 at t = colors true (first_word (at + 8)) (second_word (at + 8)) (color_selector (at + 8) t) ++ (level_at at t ∷ [])
+  texel DXT5A at t = level_at at t ∷ none ∷ none ∷ full ∷ []
+  texel DXN at t = level_at at t ∷ level_at (at + 8) t ∷ none ∷ full ∷ []
   texel unknown at t = []

@@ -10,7 +10,7 @@ use Rattle.crn_format.specs.Grid.{place_of, row_painted, face_painted, painted}
 use Rattle.crn_format.specs.declared.Grid.{Grid}
 use Rattle.crn_blocks.specs.Sheet.{In, Within, Room}
 use Rattle.crn_blocks.proofs.Stages.{left_alone, made_once}
-use Rattle.crn_blocks.proofs.Places.{below_or, beside, sets_in, sets-out, lies, Lies, faceAt, row_at, columnAt, told, apart, Same}
+use Rattle.crn_blocks.proofs.Places.{below_or, beside, sets_in, sets-out, lies, Lies, face_at, row_at, column_at, told, apart, Same}
 
 -- ---- the block that a byte lies in
 
@@ -26,29 +26,29 @@ Free g k = (f x y : ℕ) → In g f x y → Within g f x y k → ⊥
 
 -- there is one or there is none
 pub look : {g : Grid} {n : ℕ} → Room g n → (k : ℕ) → Holder g k ⊎ Free g k
-look {g} room k = ⊎_elim in_face (λ h. inr (λ f x y at w. omega (arith, (told room at w).face, at.face))) (below_or (faceAt g k) g.faces)
+look {g} room k = ⊎_elim in_face (λ h. inr (λ f x y at w. omega (arith, (told room at w).face, at.face))) (below_or (face_at g k) g.faces)
   where
-    same : {f x y : ℕ} → In g f x y → Within g f x y k → place_of g f x y ≡ place_of g (faceAt g k) (columnAt g k) (row_at g k)
+    same : {f x y : ℕ} → In g f x y → Within g f x y k → place_of g f x y ≡ place_of g (face_at g k) (column_at g k) (row_at g k)
     same at w = let s = told room at w in cc
 
-    lying : In g (faceAt g k) (columnAt g k) (row_at g k) → Holder g k ⊎ Free g k
+    lying : In g (face_at g k) (column_at g k) (row_at g k) → Holder g k ⊎ Free g k
     lying at =
         ⊎_elim
         (λ h. inr (λ f x y i w. omega (arith, same i w, w.starts)))
         (λ h. ⊎_elim
-        (λ t. inl (record { face = faceAt g k; column = columnAt g k; row = row_at g k; at = at; holds = record { starts = h; ends = t } }))
+        (λ t. inl (record { face = face_at g k; column = column_at g k; row = row_at g k; at = at; holds = record { starts = h; ends = t } }))
         (λ t. inr (λ f x y i w. omega (arith, same i w, w.ends)))
-        (below_or k (place_of g (faceAt g k) (columnAt g k) (row_at g k) + g.bytes)))
-        (below_or k (place_of g (faceAt g k) (columnAt g k) (row_at g k)))
+        (below_or k (place_of g (face_at g k) (column_at g k) (row_at g k) + g.bytes)))
+        (below_or k (place_of g (face_at g k) (column_at g k) (row_at g k)))
 
-    in_row : faceAt g k < g.faces → row_at g k < g.rows → Holder g k ⊎ Free g k
+    in_row : face_at g k < g.faces → row_at g k < g.rows → Holder g k ⊎ Free g k
     in_row hf hy =
         ⊎_elim
         (λ hx. lying (record { face = hf; column = hx; row = hy }))
         (λ h. inr (λ f x y at w. omega (arith, (told room at w).column, at.column)))
-        (below_or (columnAt g k) g.columns)
+        (below_or (column_at g k) g.columns)
 
-    in_face : faceAt g k < g.faces → Holder g k ⊎ Free g k
+    in_face : face_at g k < g.faces → Holder g k ⊎ Free g k
     in_face hf = ⊎_elim (in_row hf) (λ h. inr (λ f x y at w. omega (arith, (told room at w).row, at.row))) (below_or (row_at g k) g.rows)
 
 -- ---- the picture

@@ -87,14 +87,14 @@ lies {g} {n} {f} {x} {y} room at =
 
 -- the face, row and column of the only block that can hold byte k
 module _ (g : Grid) (k : ℕ) where
-  abbrev pub faceAt : ℕ
-  faceAt = k / g.distance
+  abbrev pub face_at : ℕ
+  face_at = k / g.distance
 
   abbrev pub row_at : ℕ
-  row_at = (k - faceAt * g.distance) / g.pitch
+  row_at = (k - face_at * g.distance) / g.pitch
 
-  abbrev pub columnAt : ℕ
-  columnAt = (k - faceAt * g.distance - row_at * g.pitch) / g.bytes
+  abbrev pub column_at : ℕ
+  column_at = (k - face_at * g.distance - row_at * g.pitch) / g.bytes
 
 -- the same place
 pub record Same (f x y f' x' y' : ℕ) : Type 0 where
@@ -103,24 +103,24 @@ pub record Same (f x y f' x' y' : ℕ) : Type 0 where
   pub row : y ≡ y'
 
 module _ {g : Grid} {n f x y k : ℕ} (room : Room g n) (at : In g f x y) (w : Within g f x y k) where
-  face-told : f ≡ faceAt g k
+  face-told : f ≡ face_at g k
   face-told = let l = lies room at in slot g.distance f k (omega arith) (omega arith)
 
-  face-start : f * g.distance ≡ faceAt g k * g.distance
+  face-start : f * g.distance ≡ face_at g k * g.distance
   face-start = ap (λ (t : ℕ). t * g.distance) face-told
 
   row_told : y ≡ row_at g k
-  row_told = let l = lies room at in slot g.pitch y (k - faceAt g k * g.distance) (omega (arith, face-start)) (omega (arith, face-start))
+  row_told = let l = lies room at in slot g.pitch y (k - face_at g k * g.distance) (omega (arith, face-start)) (omega (arith, face-start))
 
   row-start : y * g.pitch ≡ row_at g k * g.pitch
   row-start = ap (λ (t : ℕ). t * g.pitch) row_told
 
-  column-told : x ≡ columnAt g k
+  column-told : x ≡ column_at g k
   column-told =
-      slot g.bytes x (k - faceAt g k * g.distance - row_at g k * g.pitch) (omega (arith, face-start, row-start))
+      slot g.bytes x (k - face_at g k * g.distance - row_at g k * g.pitch) (omega (arith, face-start, row-start))
       (omega (arith, face-start, row-start))
 
-  pub told : Same f x y (faceAt g k) (columnAt g k) (row_at g k)
+  pub told : Same f x y (face_at g k) (column_at g k) (row_at g k)
   told = record { face = face-told; column = column-told; row = row_told }
 
 -- two blocks of the grid that share a byte are one

@@ -11,7 +11,7 @@ use Rattle.crn_decoders.specs.Tables.{tables_in}
 
 -- a plane whose two tables are of the numbers k and k + 1
 abbrev pub side_of : ℕ → Part → Part → Bool → Side
-side_of k ends sels isAlpha = record { ends = k; sels = k + 1; endpoints = ends.count; selectors = sels.count; alpha = isAlpha }
+side_of k ends sels is_alpha = record { ends = k; sels = k + 1; endpoints = ends.count; selectors = sels.count; alpha = is_alpha }
 
 -- the colour plane's tables come after the alpha plane's
 abbrev pub color_tables : Bool → ℕ

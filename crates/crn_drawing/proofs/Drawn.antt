@@ -21,7 +21,7 @@ use Rattle.crn_blocks.proofs.Whole.{wiped, counted}
 use Rattle.crn_unpacker.specs.Going.{Given, Fit, Goes, none, shades}
 use Rattle.crn_unpacker.specs.declared.Went.{Went}
 use Rattle.crn_unpacker.specs.declared.Went.TheVariants.{On, Stopped}
-use Rattle.crn_unpacker.proofs.Whole.{level_course, chunks_here, levelRun, Through, through, early}
+use Rattle.crn_unpacker.proofs.Whole.{level_course, chunks_here, level_run, Through, through, early}
 use Rattle.crn_drawing.specs.declared.Unpacked.{Unpacked}
 use Rattle.crn_drawing.specs.declared.Unpacked.TheVariants.{Blocks, Refused}
 use Rattle.crn_drawing.specs.Unpacks.{answer_of, Unpacks}
@@ -38,10 +38,10 @@ module _ (l : Given) (c : Cursor) (all : ℕ) (at_first : place c ≡ 0) (d e : 
     (goes : Goes l 0 (chunk_count l.grid) none (record { cursor = c; blamed = 0; left = all }) d e w) where
   module _ (cs : ℕ → List ℕ) (coded : Coded cs l.planes l.lookup l.sorted) where
     -- the definition starts where the cursor does
-    from_first : (k : Kind) → ended_by k cs l all d ≡ ended k l.grid (shades l) all d (levelRun l cs (first c all))
+    from_first : (k : Kind) → ended_by k cs l all d ≡ ended k l.grid (shades l) all d (level_run l cs (first c all))
     from_first k = rw at_first
 
-    falls : left_of (levelRun l cs (first c all)) ≤ all
+    falls : left_of (level_run l cs (first c all)) ≤ all
     falls = left_falls (from_bits l.seg) (level (cs 0) (planes cs l.planes) (insides l.grid 0 (chunk_count l.grid)))
         (spending (first c all))
 

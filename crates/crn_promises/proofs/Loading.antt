@@ -56,15 +56,15 @@ module _ (c : LoadCall) where
 
 module _ (c : LoadCall) (s : LoadSame c) where
   -- the same call as an opening
-  abbrev asOpening : OpenCall
-  asOpening = record { file = c.file; lent = c.lent; after = c.after; answer = c.answer }
+  abbrev as_opening : OpenCall
+  as_opening = record { file = c.file; lent = c.lent; after = c.after; answer = c.answer }
 
   module _ (y : agrees c.header c.file ≡ true) where
     is-opening : loading c.header c.file c.lent ≡ opening c.file c.lent
     is-opening = load-goes-on c.header c.file c.lent y
 
-    as_opening : OpenSame asOpening
-    as_opening = record { answer = s.alike y ∙ ap to_opened is-opening; leaves = s.leaves ∙ ap buffers_of is-opening }
+    as_opening_lem : OpenSame as_opening
+    as_opening_lem = record { answer = s.alike y ∙ ap to_opened is-opening; leaves = s.leaves ∙ ap buffers_of is-opening }
 
     goes_on : opening c.file c.lent ≡ after_look c.file c.lent (header_of c.file)
     goes_on =
@@ -90,7 +90,7 @@ module _ (c : LoadCall) (s : LoadSame c) where
     ended : Ended
     ended =
         late (after_look c.file c.lent (header_of c.file)) (after-look_late c.file c.lent (header_of c.file))
-        (as_opening.answer ∙ ap to_opened goes_on)
+        (as_opening_lem.answer ∙ ap to_opened goes_on)
 
     not_17 : c.answer.refusal ≡ 17 → ⊥
     not_17 e = by ended.number
@@ -106,7 +106,7 @@ module _ (c : LoadCall) (s : LoadSame c) where
 
     total-alike : LoadTotal c
     total-alike =
-        let o = opens.open-total asOpening as_opening in
+        let o = opens.open-total as_opening as_opening_lem in
         record {
           number = some ended.number;
           accepted = λ z.
@@ -148,11 +148,11 @@ module _ (c : LoadCall) (s : LoadSame c) where
 
   pub load-ready : LoadReady c
   load-ready z =
-      both_ways (λ y. opens.open-ready asOpening (as_opening y) z) (λ n. absurd (omega (arith, (s.apart n).0, z)))
+      both_ways (λ y. opens.open-ready as_opening (as_opening_lem y) z) (λ n. absurd (omega (arith, (s.apart n).0, z)))
 
   pub load-told : LoadTold c
   load-told w e =
-      both_ways (λ y. opens.open-told asOpening (as_opening y) (rw (agrees_own c.header c.file y) at w) e)
+      both_ways (λ y. opens.open-told as_opening (as_opening_lem y) (rw (agrees_own c.header c.file y) at w) e)
       (λ n. omega (arith, (s.apart n).0, e))
 
   -- one call after the other
@@ -160,7 +160,7 @@ module _ (c : LoadCall) (s : LoadSame c) where
   two-calls file a is o same header mine his lent =
       record {
         goes_on = λ z.
-            let own = as_opening (rw (header, is, mine) (look-agrees file (sym (ap (λ (x : Looked). x.refusal) is) ∙ z))) in
+            let own = as_opening_lem (rw (header, is, mine) (look-agrees file (sym (ap (λ (x : Looked). x.refusal) is) ∙ z))) in
             let its : opening c.file c.lent ≡ opening o.file o.lent = rw (mine, his, lent) in
             (own.answer ∙ ap to_opened its ∙ sym same.answer, own.leaves ∙ ap buffers_of its ∙ sym same.leaves);
         refused = λ f.

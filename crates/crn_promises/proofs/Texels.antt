@@ -20,7 +20,7 @@ use Rattle.crn_sizes.specs.Sizes.{level_sizes}
 use Rattle.crn_blocks.proofs.Places.{below_or}
 use Rattle.crn_laws_total.specs.Refusals.{among}
 use Rattle.bcn_format.specs.Channels.{Channel, none, byte}
-use Rattle.bcn_format.specs.Blocks.{red, green, blue, colors, first_word, secondWord, colorSelector, shade, cover, texel}
+use Rattle.bcn_format.specs.Blocks.{red, green, blue, colors, first_word, second_word, color_selector, shade, cover, texel}
 use Rattle.bcn_format.specs.Picture.{channel, texel_place, side, fine, enough, reach, refusal}
 use Rattle.bcn_format.specs.declared.Face.{Face}
 use Rattle.texels.specs.Sheet as sheet
@@ -155,8 +155,8 @@ module _ (c : TexelsCall) (same : TexelsSame c) (z : c.answer ≡ 0) {x y : ℕ}
 
   four_colours : kind_of c.format ≡ DXT5 → (k : ℕ) → k < 3
       → get_or c.after (texel_place c.face x y + k) 0
-      ≡ byte (get_or (colors true (first_word c.blocks (start_of c DXT5 x y + 8)) (secondWord c.blocks (start_of c DXT5 x y + 8))
-      (colorSelector c.blocks (start_of c DXT5 x y + 8) (in_block x y))) k none)
+      ≡ byte (get_or (colors true (first_word c.blocks (start_of c DXT5 x y + 8)) (second_word c.blocks (start_of c DXT5 x y + 8))
+      (color_selector c.blocks (start_of c DXT5 x y + 8) (in_block x y))) k none)
   unfolding texel
   four_colours e k h = (rw e at (there k (omega arith))) ∙ ap byte (three_of-four _ _ _ _ k h)
 
@@ -165,10 +165,10 @@ module _ (c : TexelsCall) (same : TexelsSame c) (z : c.answer ≡ 0) {x y : ℕ}
   v = first_word c.blocks (start_of c DXT1 x y)
 
   w : ℕ
-  w = secondWord c.blocks (start_of c DXT1 x y)
+  w = second_word c.blocks (start_of c DXT1 x y)
 
   i : ℕ
-  i = colorSelector c.blocks (start_of c DXT1 x y) (in_block x y)
+  i = color_selector c.blocks (start_of c DXT1 x y) (in_block x y)
 
   -- its bytes in a mode
   abbrev InMode : ℕ → Bool → Type 0

@@ -28,7 +28,7 @@ use Rattle.dds.specs.Header.{dds_of}
 use Rattle.law_containers.specs.Standing.{Fair, Checked, Writable, early_numbers, level_numbers, Untouched, Zeroed}
 use Rattle.law_containers.specs.Dds.{plan_of, Whole}
 use Rattle.bcn_format.specs.Channels.{none, byte, exact, Near}
-use Rattle.bcn_format.specs.Blocks.{colors, first_word, secondWord, colorSelector}
+use Rattle.bcn_format.specs.Blocks.{colors, first_word, second_word, color_selector}
 use Rattle.bcn_format.specs.Picture.{Bytes, block_start, channel, texel_place, fine, enough, reach}
 use Rattle.texels.specs.Sheet.{Within}
 use Rattle.texels.specs.Sheet as sheet
@@ -353,16 +353,16 @@ in_block x y = 4 * (y % 4) + x % 4
 -- the texel is the fourth colour of three-colour mode: the first word is not above the second, and its selector is 3
 abbrev pub CutOut : TexelsCall → ℕ → ℕ → Type 0
 CutOut c x y =
-    (first_word c.blocks (start_of c DXT1 x y) ≤ secondWord c.blocks (start_of c DXT1 x y))
-    × (colorSelector c.blocks (start_of c DXT1 x y) (in_block x y) ≡ 3)
+    (first_word c.blocks (start_of c DXT1 x y) ≤ second_word c.blocks (start_of c DXT1 x y))
+    × (color_selector c.blocks (start_of c DXT1 x y) (in_block x y) ≡ 3)
 
 -- "BC3 colour has the four-colour mode only; BC1 is the kind with alpha"
 pub record TexelsModes (c : TexelsCall) : Type 0 where
   -- whatever the words' order
   pub bc3 : c.answer ≡ 0 → kind_of c.format ≡ DXT5 → (x y k : ℕ) → sheet.In c.face x y → k < 3
       → get_or c.after (texel_place c.face x y + k) 0
-      ≡ byte (get_or (colors true (first_word c.blocks (start_of c DXT5 x y + 8)) (secondWord c.blocks (start_of c DXT5 x y + 8))
-      (colorSelector c.blocks (start_of c DXT5 x y + 8) (in_block x y))) k none)
+      ≡ byte (get_or (colors true (first_word c.blocks (start_of c DXT5 x y + 8)) (second_word c.blocks (start_of c DXT5 x y + 8))
+      (color_selector c.blocks (start_of c DXT5 x y + 8) (in_block x y))) k none)
   -- black and transparent, or opaque
   pub clear : c.answer ≡ 0 → kind_of c.format ≡ DXT1 → (x y k : ℕ) → sheet.In c.face x y → k < 4 → CutOut c x y
       → get_or c.after (texel_place c.face x y + k) 0 ≡ 0

@@ -65,27 +65,27 @@ without_carried src cs (got q v) = answered src cs v
 without_carried src cs (refused x v) = refl
 
 module _ (l : Given) (cs : ℕ → List ℕ) (s : Stream) where
-  abbrev pub levelRun : Step Spending (List Chunk)
-  levelRun = run (source l.seg) (level (cs 0) (planes cs l.planes) (insides l.grid 0 (chunk_count l.grid))) (spending s)
+  abbrev pub level_run : Step Spending (List Chunk)
+  level_run = run (source l.seg) (level (cs 0) (planes cs l.planes) (insides l.grid 0 (chunk_count l.grid))) (spending s)
 
-  abbrev pub lastState : Step Spending Running
-  lastState = state_at l (level_course l cs s) (chunk_count l.grid)
+  abbrev pub last_state : Step Spending Running
+  last_state = state_at l (level_course l cs s) (chunk_count l.grid)
 
-  all : levelRun ≡ then lastState (λ q v. got (chunks_here l (level_course l cs s)) v)
+  all : level_run ≡ then last_state (λ q v. got (chunks_here l (level_course l cs s)) v)
   unfolding level
   all =
       run-next (source l.seg) (chunks (cs 0) (planes cs l.planes) (insides l.grid 0 (chunk_count l.grid)) (fresh (planes cs l.planes)) [])
       (λ a. answer a.0) (spending s)
       ∙ ap (λ (y : Step Spending (List Chunk × Running)). then y (λ a v. run (source l.seg) (answer a.0) v))
       (chunks-run (source l.seg) (cs 0) (planes cs l.planes) l.grid (fresh (planes cs l.planes)) (spending s) (chunk_count l.grid))
-      ∙ without_carried (source l.seg) (chunks_here l (level_course l cs s)) lastState
+      ∙ without_carried (source l.seg) (chunks_here l (level_course l cs s)) last_state
 
   -- the definition's run over the level, by how the run over its chunks ended
-  pub level-got : {q : Running} {v : Spending} → lastState ≡ got q v → levelRun ≡ got (chunks_here l (level_course l cs s)) v
+  pub level-got : {q : Running} {v : Spending} → last_state ≡ got q v → level_run ≡ got (chunks_here l (level_course l cs s)) v
   unfolding then
   level-got e = all ∙ rw e
 
-  pub level-refused : {x : ℕ} {v : Spending} → lastState ≡ refused x v → levelRun ≡ refused x v
+  pub level-refused : {x : ℕ} {v : Spending} → last_state ≡ refused x v → level_run ≡ refused x v
   unfolding then
   level-refused e = all ∙ rw e
 
@@ -167,13 +167,13 @@ block_size l cs s bytes e f x y at =
 
 -- it went through: the definition's chunks, and its picture
 pub record Through (l : Given) (cs : ℕ → List ℕ) (s t : Stream) (d e : List ℕ) : Type 0 where
-  pub runs : levelRun l cs s ≡ got (chunks_here l (level_course l cs s)) (spending t)
+  pub runs : level_run l cs s ≡ got (chunks_here l (level_course l cs s)) (spending t)
   pub sized : (f x y : ℕ) → In l.grid f x y → length (block_at l.grid (shades l) (chunks_here l (level_course l cs s)) f x y) ≡ l.grid.bytes
   pub picture : e ≡ painted l.grid (block_at l.grid (shades l) (chunks_here l (level_course l cs s))) l.grid.faces d
 
 -- it was refused, as the definition's run is
 pub record Early (l : Given) (cs : ℕ → List ℕ) (s : Stream) (x : Stop) (d e : List ℕ) : Type 0 where
-  pub runs : levelRun l cs s ≡ stopped x
+  pub runs : level_run l cs s ≡ stopped x
   pub rest : Outside l.grid d e
 
 module _ {l : Given} {s : Stream} {d e : List ℕ} {w : Went} (goes : Goes l 0 (chunk_count l.grid) none s d e w) (cs : ℕ → List ℕ)

@@ -30,7 +30,7 @@ use Rattle.crn_laws_total.specs.Ends.{sum_of}
 use Rattle.picture.specs.declared.Picture.{Picture}
 use Rattle.picture.specs.Surfaces.{Plan, picture_of, surface}
 use Rattle.picture.specs.Writing.{Sums, nothing, more, Put, put, stopped, onward, put_from}
-use Rattle.law_containers.specs.Standing.{givenAt, levelAt, grid_at, Stands, symbolsBy, cutoutsBy, Counted, Stops, InSurface, Sound}
+use Rattle.law_containers.specs.Standing.{given_at, level_at, grid_at, Stands, symbols_by, cutouts_by, Counted, Stops, InSurface, Sound}
 use Rattle.law_containers.proofs.Level.{script_in, script_in_lem, Left, full, told-left}
 
 -- ---- a block lies in its surface
@@ -75,15 +75,15 @@ sum-last (suc n) f = omega (arith, sum-last n (λ i. f (suc i)))
 
 module _ (pl : Plan) (r : Record) (file : List ℕ) (p : Palettes) where
   -- the script of each level that has one
-  abbrev pub scriptsIn : ℕ → List Draws
-  scriptsIn l = script_in (levelAt pl r file p l)
+  abbrev pub scripts_in : ℕ → List Draws
+  scripts_in l = script_in (level_at pl r file p l)
 
   -- of dst the first m levels were filled, and d came of it: they stand in d and are counted, and what is in none of their surfaces is as
   -- before
   pub record Filled (dst : List ℕ) (m : ℕ) (t : Sums) (d : List ℕ) : Type 0 where
     pub long : length d ≡ length dst
-    pub levels : (l : ℕ) → l < m → Stands pl r file p d l (scriptsIn l)
-    pub counted : Counted pl r file p scriptsIn m t
+    pub levels : (l : ℕ) → l < m → Stands pl r file p d l (scripts_in l)
+    pub counted : Counted pl r file p scripts_in m t
     pub kept : (i : ℕ) → ((f l : ℕ) → l < m → InSurface pl (picture_of r.header) f l i → ⊥) → get_or d i 0 ≡ get_or dst i 0
 
   none : (dst : List ℕ) → Filled dst 0 nothing dst
@@ -107,21 +107,21 @@ module _ (pl : Plan) (r : Record) (file : List ℕ) (p : Palettes) (dst : List �
   pic = picture_of r.header
 
   abbrev scripts : ℕ → List Draws
-  scripts = scriptsIn pl r file p
+  scripts = scripts_in pl r file p
 
   abbrev Done : ℕ → Sums → List ℕ → Type 0
   Done = Filled pl r file p dst
 
   module _ (m : ℕ) (number : m < r.header.levels) (t : Sums) (d : List ℕ) (done : Done m t d) {s c : ℕ} {rest : List ℕ}
-      (is : unpacking_in (givenAt pl r file p d m) (full (levelAt pl r file p m)) ≡ unpacked s c rest) where
-    left : Left (givenAt pl r file p d m) s c rest
-    left = told-left (givenAt pl r file p d m) is
+      (is : unpacking_in (given_at pl r file p d m) (full (level_at pl r file p m)) ≡ unpacked s c rest) where
+    left : Left (given_at pl r file p d m) s c rest
+    left = told-left (given_at pl r file p d m) is
 
-    has : ScriptOf (levelAt pl r file p m) (scripts m)
-    has = script_in_lem (levelAt pl r file p m) left.passes.tables left.script left.is
+    has : ScriptOf (level_at pl r file p m) (scripts m)
+    has = script_in_lem (level_at pl r file p m) left.passes.tables left.script left.is
 
     same : left.script ≡ scripts m
-    same = only-script (givenAt pl r file p d m) left.passes left.script (scripts m) left.is has
+    same = only-script (given_at pl r file p d m) left.passes left.script (scripts m) left.is has
 
     fits : pl.from m ≤ length d
     fits = omega (arith, sound.within 0 m some number, done.long)
@@ -165,7 +165,7 @@ module _ (pl : Plan) (r : Record) (file : List ℕ) (p : Palettes) (dst : List �
           fair = record { segment = left.passes.segment; palettes = left.passes.palettes; script = has };
           blocks = λ f x y k at small.
               put-behind (pl.from m) d rest fits (place_of (grid_at pl r.header m) f x y + k) ∙ left.leaves.blocks f x y k at small
-              ∙ ap (λ (ds : List Draws). get_or (blocks_by (levelAt pl r file p m) ds f x y) k 0) same;
+              ∙ ap (λ (ds : List Draws). get_or (blocks_by (level_at pl r file p m) ds f x y) k 0) same;
         })
 
     one_more : Done (suc m) (more t s c) next
@@ -181,16 +181,16 @@ module _ (pl : Plan) (r : Record) (file : List ℕ) (p : Palettes) (dst : List �
                   arith,
                   done.counted.symbols,
                   left.symbols,
-                  ap (symbolsBy pl r file p m) same,
-                  sum-last m (λ l. symbolsBy pl r file p l (scripts l)),
+                  ap (symbols_by pl r file p m) same,
+                  sum-last m (λ l. symbols_by pl r file p l (scripts l)),
                 );
             cutouts =
                 omega (
                   arith,
                   done.counted.cutouts,
                   left.cutouts,
-                  ap (cutoutsBy pl r file p m) same,
-                  sum-last m (λ l. cutoutsBy pl r file p l (scripts l)),
+                  ap (cutouts_by pl r file p m) same,
+                  sum-last m (λ l. cutouts_by pl r file p l (scripts l)),
                 );
           };
           kept = λ i out. untouched i (λ f a. out f m (omega arith) a) ∙ done.kept i (λ f l h a. out f l (omega arith) a);
@@ -207,9 +207,9 @@ module _ (pl : Plan) (r : Record) (file : List ℕ) (p : Palettes) (dst : List �
       let last : m ≡ r.header.levels = omega arith in
       subst (λ (k : ℕ). Done k t d) last done
   from (suc n) m whole t d done =
-      by (unpacking_in (givenAt pl r file p d m) (level_sizes r.header m).symbols) refl (λ t d f. from n (m + 1) (omega arith) t d f)
+      by (unpacking_in (given_at pl r file p d m) (level_sizes r.header m).symbols) refl (λ t d f. from n (m + 1) (omega arith) t d f)
     where
-      by : (u : Unpacking) → unpacking_in (givenAt pl r file p d m) (level_sizes r.header m).symbols ≡ u
+      by : (u : Unpacking) → unpacking_in (given_at pl r file p d m) (level_sizes r.header m).symbols ≡ u
           → ((t : Sums) (d : List ℕ) → Done (m + 1) t d → Ends (put_from n pl r file p (m + 1) t d))
           → Ends (onward m (pl.from m) t d (put_from n pl r file p (m + 1)) u)
       by (unpacked s c rest) is go =

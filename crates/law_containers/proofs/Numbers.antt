@@ -23,7 +23,7 @@ use Rattle.crn_format.proofs.Refusing.{Stops as StopsBy, bits-stop}
 use Rattle.crn_laws_total.proofs.LevelReadings.{level_refuses}
 use Rattle.picture.specs.Surfaces.{Plan, picture_of}
 use Rattle.picture.specs.Writing.{Stop, Container}
-use Rattle.law_containers.specs.Standing.{givenAt, Sound, Fair, Stops, full_stream, level_numbers, Checked, early_numbers, Refuses}
+use Rattle.law_containers.specs.Standing.{given_at, Sound, Fair, Stops, full_stream, level_numbers, Checked, early_numbers, Refuses}
 use Rattle.law_containers.specs.Standing.{Unfair, segment, palettes, script, Early, limits, tables, format, room}
 use Rattle.law_containers.proofs.Level.{full}
 use Rattle.law_containers.proofs.Passing.{passes}
@@ -63,7 +63,7 @@ module _ (pl : Plan) (r : Record) (file : List ℕ) (p : Palettes) {head : ℕ} 
       l = s.level
 
       v : Given
-      v = givenAt pl r file p stops.output l
+      v = given_at pl r file p stops.output l
 
       is : unpacking_in v (full v) ≡ declined s.refusal stops.drawn s.bit stops.rest
       is = stops.answers

@@ -18,7 +18,7 @@ use Rattle.crn_sizes.specs.Sizes.{level_sizes}
 use Rattle.crn_laws.specs.Levels.{Passes}
 use Rattle.picture.specs.Surfaces.{Plan, picture_of, surface}
 use Rattle.picture.proofs.Chains.{times_four, bytes-fours}
-use Rattle.law_containers.specs.Standing.{givenAt, grid_at, Sound}
+use Rattle.law_containers.specs.Standing.{given_at, grid_at, Sound}
 use Rattle.law_containers.proofs.Filling.{pitch_so}
 
 some_block : (n : ℕ) → 0 < n → 0 < blocks n
@@ -76,6 +76,6 @@ module _ (pl : Plan) (r : Record) (file : List ℕ) (p : Palettes) {head : ℕ} 
       (omega (arith, w, ap (λ (n : ℕ). (rows - 1) * n) pitch-is, last_row rows (columns * bytes) row, surface-is, long))
 
   -- so a level whose segment stands, and for which the palettes reach, passes
-  pub passes : level_stands file r.header m ≡ true → palettes_reach r.header p ≡ true → Passes (givenAt pl r file p d m)
+  pub passes : level_stands file r.header m ≡ true → palettes_reach r.header p ≡ true → Passes (given_at pl r file p d m)
   passes segment palettes =
       record { limits = limits; tables = tables; number = number; segment = segment; palettes = palettes; grid = fits; room = reaches }

@@ -24,9 +24,9 @@ use Rattle.picture.specs.Kinds.{goes_out}
 use Rattle.picture.specs.Surfaces.{picture_of}
 use Rattle.picture.specs.Writing.{Sums, nothing, Stop, Put, put, stopped, put_from}
 use Rattle.picture.specs.Writing.{Container, Writing, written, refused, finished, early, writing}
-use Rattle.law_containers.specs.Standing.{givenAt, grid_at, Sound, Stamps, Fair, Checked, Writable, Standing}
+use Rattle.law_containers.specs.Standing.{given_at, grid_at, Sound, Stamps, Fair, Checked, Writable, Standing}
 use Rattle.law_containers.specs.Standing.{Early, limits, tables, format, room, Refuses, WritingEnds}
-use Rattle.law_containers.proofs.Filling.{in_surface, scriptsIn, Filled, PutEnds, put-ends}
+use Rattle.law_containers.proofs.Filling.{in_surface, scripts_in, Filled, PutEnds, put-ends}
 use Rattle.law_containers.proofs.Passing.{passes}
 use Rattle.law_containers.proofs.Numbers.{stops_unfair, not-fair, not-checked}
 
@@ -76,7 +76,7 @@ module _ (c : Container) (r : Record) (file : List ℕ) (p : Palettes) (dst : Li
   pub fair-only : (l : ℕ) → l < r.header.levels → {cs ds : List Draws} → Fair c.plan r file p l cs → Fair c.plan r file p l ds
       → cs ≡ ds
   fair-only l number {cs} {ds} a b =
-      only-script (givenAt c.plan r file p (take c.plan.total dst) l)
+      only-script (given_at c.plan r file p (take c.plan.total dst) l)
       (passes c.plan r file p sound checked.limits checked.tables some l number (take c.plan.total dst) region a.segment
       a.palettes)
       cs ds a.script b.script
@@ -112,7 +112,7 @@ module _ (c : Container) (r : Record) (file : List ℕ) (p : Palettes) (dst : Li
                 length-drop c.plan.total dst,
                 checked.room,
               );
-          scripts = scriptsIn c.plan r file p;
+          scripts = scripts_in c.plan r file p;
           levels = λ l number.
               let s = fill.levels l number in
               record {

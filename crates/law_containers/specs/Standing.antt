@@ -73,8 +73,8 @@ level_numbers = 4 ∷ 5 ∷ full_stream
 
 module _ (pl : Plan) (r : Record) (file : List ℕ) (p : Palettes) where
   -- what unpacking level l into its place in dst is given
-  abbrev pub givenAt : List ℕ → ℕ → Given
-  givenAt dst l =
+  abbrev pub given_at : List ℕ → ℕ → Given
+  given_at dst l =
       record {
         opened = r;
         file = file;
@@ -86,39 +86,39 @@ module _ (pl : Plan) (r : Record) (file : List ℕ) (p : Palettes) where
       }
 
   -- the same with no output: scripts, their symbols and their blocks do not depend on it
-  abbrev pub levelAt : ℕ → Given
-  levelAt l = givenAt [] l
+  abbrev pub level_at : ℕ → Given
+  level_at l = given_at [] l
 
   -- level l can be unpacked: its segment stands (4), the palettes reach (5), and ds are a script of it (7, 8, 13, 14)
   pub record Fair (l : ℕ) (ds : List Draws) : Type 0 where
     pub segment : level_stands file r.header l ≡ true
     pub palettes : palettes_reach r.header p ≡ true
-    pub script : ScriptOf (levelAt l) ds
+    pub script : ScriptOf (level_at l) ds
 
   -- and in d each of its blocks is the one that its position and the script give
   pub record Stands (d : List ℕ) (l : ℕ) (ds : List Draws) : Type 0 where
     pub fair : Fair l ds
     pub blocks : (f x y k : ℕ) → In (grid_at pl r.header l) f x y → k < (grid_at pl r.header l).bytes
-        → get_or d (pl.from l + (place_of (grid_at pl r.header l) f x y + k)) 0 ≡ get_or (blocks_by (levelAt l) ds f x y) k 0
+        → get_or d (pl.from l + (place_of (grid_at pl r.header l) f x y + k)) 0 ≡ get_or (blocks_by (level_at l) ds f x y) k 0
 
   -- the symbols of a script of level l, and the cut-outs among the blocks that it gives
-  abbrev pub symbolsBy : ℕ → List Draws → ℕ
-  symbolsBy l ds = length (symbols_of (levelAt l) ds)
+  abbrev pub symbols_by : ℕ → List Draws → ℕ
+  symbols_by l ds = length (symbols_of (level_at l) ds)
 
-  abbrev pub cutoutsBy : ℕ → List Draws → ℕ
-  cutoutsBy l ds = cutout_count (kind_of r.header.format) (grid_at pl r.header l) (blocks_by (levelAt l) ds)
+  abbrev pub cutouts_by : ℕ → List Draws → ℕ
+  cutouts_by l ds = cutout_count (kind_of r.header.format) (grid_at pl r.header l) (blocks_by (level_at l) ds)
 
   -- so many symbols and cut-outs are in the first n levels, with these scripts
   pub record Counted (scripts : ℕ → List Draws) (n : ℕ) (t : Sums) : Type 0 where
-    pub symbols : t.symbols ≡ sum_of n (λ l. symbolsBy l (scripts l))
-    pub cutouts : t.cutouts ≡ sum_of n (λ l. cutoutsBy l (scripts l))
+    pub symbols : t.symbols ≡ sum_of n (λ l. symbols_by l (scripts l))
+    pub cutouts : t.cutouts ≡ sum_of n (λ l. cutouts_by l (scripts l))
 
   -- why level l is refused, and by which number: its segment does not stand, or else the palettes do not reach, or else it has no script
   pub data Unfair (l : ℕ) : ℕ → Type 0 where
     segment : level_stands file r.header l ≡ false → Unfair l 4
     palettes : level_stands file r.header l ≡ true → palettes_reach r.header p ≡ false → Unfair l 5
     script : {n : ℕ} → level_stands file r.header l ≡ true → palettes_reach r.header p ≡ true → among n full_stream ≡ true
-        → ((ds : List Draws) → ScriptOf (levelAt l) ds → ⊥) → Unfair l n
+        → ((ds : List Draws) → ScriptOf (level_at l) ds → ⊥) → Unfair l n
 
   -- a level was refused, after others that can be unpacked: by what its own unpacking answers, in its place in an output of the right
   -- length. The symbols are those of the levels before it, by their scripts, and those that it has drawn itself
@@ -130,9 +130,9 @@ module _ (pl : Plan) (r : Record) (file : List ℕ) (p : Palettes) where
     pub long : length output ≡ pl.total
     pub drawn : ℕ
     pub rest : List ℕ
-    pub answers : unpacking_in (givenAt output s.level) (level_sizes r.header s.level).symbols
+    pub answers : unpacking_in (given_at output s.level) (level_sizes r.header s.level).symbols
         ≡ declined s.refusal drawn s.bit rest
-    pub symbols : s.symbols ≡ sum_of s.level (λ l. symbolsBy l (scripts l)) + drawn
+    pub symbols : s.symbols ≡ sum_of s.level (λ l. symbols_by l (scripts l)) + drawn
 
 -- ---- the whole
 
