@@ -57,7 +57,7 @@ returns-then-short c =
     (sym c.within_limits.ensures ∙ c.if-not-within_limits.false) in it))
     ((let it : tables_hold ((record_by c.args.header c.args.counts c.args.chunk.now c.args.color_ends.now c.args.color_sels.now
     c.args.alpha_ends.now c.args.alpha_sels.now)).tables ≡ true = (sym c.tables_hold-tables.ensures ∙ c.if-not-tables.false) in it))
-    ((let it : goes_out c.args.header.format ≡ true = (sym c.goes_out-swizzled.ensures ∙ c.if-swizzled.false) in it))
+    (sym c.goes_out-swizzled.ensures ∙ c.if-swizzled.false)
     (omega (
       arith,
       c.if-short.true,
