@@ -13,102 +13,80 @@ use Rattle.crn_chunk_blocks.proofs.blocks.Goals as goal
 use Rattle.crn_chunk_blocks.proofs.blocks.Goals.{then-right-q, else-right-q}
 
 pub overflow_mul-base : goal.overflow_mul-base
-overflow_mul-base c = let l : Lies c.args.g c.args.face (2 * c.args.cx) (2 * c.args.cy) (length c.args.dst.now) = lies
-    c.requires.placeable.room (first_in c.args.g c.args.face c.args.cx c.args.cy c.requires.covered) in omega (arith, c.well_formed.0.0)
+overflow_mul-base c =
+    let l = lies c.requires.placeable.room (first_in c.args.g c.args.face c.args.cx c.args.cy c.requires.covered) in
+    omega (arith, l, c.well_formed.0.0)
 
 pub overflow_mul-base-2 : goal.overflow_mul-base-2
 overflow_mul-base-2 c = omega (arith, c.requires.covered.row, c.requires.placeable.room.few_rows)
 
 pub overflow_mul-base-3 : goal.overflow_mul-base-3
-overflow_mul-base-3 c = let l : Lies c.args.g c.args.face (2 * c.args.cx) (2 * c.args.cy) (length c.args.dst.now) = lies
-    c.requires.placeable.room (first_in c.args.g c.args.face c.args.cx c.args.cy c.requires.covered) in omega (arith, c.well_formed.0.0)
+overflow_mul-base-3 c =
+    let l = lies c.requires.placeable.room (first_in c.args.g c.args.face c.args.cx c.args.cy c.requires.covered) in
+    omega (arith, l, c.well_formed.0.0)
 
 pub overflow_add-base : goal.overflow_add-base
-overflow_add-base c = let l : Lies c.args.g c.args.face (2 * c.args.cx) (2 * c.args.cy) (length c.args.dst.now) = lies
-    c.requires.placeable.room (first_in c.args.g c.args.face c.args.cx c.args.cy c.requires.covered) in omega (arith, c.well_formed.0.0)
+overflow_add-base c =
+    let l = lies c.requires.placeable.room (first_in c.args.g c.args.face c.args.cx c.args.cy c.requires.covered) in
+    omega (arith, l, c.well_formed.0.0)
 
 pub overflow_mul-base-4 : goal.overflow_mul-base-4
 overflow_mul-base-4 c = omega (arith, c.requires.covered.column, c.requires.placeable.room.few_columns)
 
 pub overflow_mul-base-5 : goal.overflow_mul-base-5
-overflow_mul-base-5 c = let l : Lies c.args.g c.args.face (2 * c.args.cx) (2 * c.args.cy) (length c.args.dst.now) = lies
-    c.requires.placeable.room (first_in c.args.g c.args.face c.args.cx c.args.cy c.requires.covered) in omega (arith, c.well_formed.0.0)
+overflow_mul-base-5 c =
+    let l = lies c.requires.placeable.room (first_in c.args.g c.args.face c.args.cx c.args.cy c.requires.covered) in
+    omega (arith, l, c.well_formed.0.0)
 
 pub overflow_add-base-2 : goal.overflow_add-base-2
-overflow_add-base-2 c = let l : Lies c.args.g c.args.face (2 * c.args.cx) (2 * c.args.cy) (length c.args.dst.now) = lies
-    c.requires.placeable.room (first_in c.args.g c.args.face c.args.cx c.args.cy c.requires.covered) in omega (arith, c.well_formed.0.0)
+overflow_add-base-2 c =
+    let l = lies c.requires.placeable.room (first_in c.args.g c.args.face c.args.cx c.args.cy c.requires.covered) in
+    omega (arith, l, c.well_formed.0.0)
 
 pub loop-q-init : goal.loop-q-init
 loop-q-init c = (omega arith, until (omega arith) start)
 
 pub overflow_mul-at : goal.overflow_mul-at
 overflow_mul-at c =
-    let placed : (c.args.face * c.args.g.distance + 2 * c.args.cy * c.args.g.pitch + 2 * c.args.cx * c.args.g.bytes + c.loop-q.q / 2 *
-    c.args.g.pitch + c.loop-q.q % 2 * c.args.g.bytes ≡ place_of c.args.g c.args.face (2 * c.args.cx + c.loop-q.q % 2)
-    (2 * c.args.cy + c.loop-q.q / 2)) = let a = c.args in place_by a.g a.face a.cx a.cy c.loop-q.q in
-    let l : Lies c.args.g c.args.face (2 * c.args.cx + c.loop-q.q % 2) (2 * c.args.cy + c.loop-q.q / 2)
-    (length c.args.dst.now) = lies c.requires.placeable.room ((let it : In c.args.g c.args.face (2 * c.args.cx + c.loop-q.q % 2)
-    (2 * c.args.cy + c.loop-q.q / 2) = (let a = c.args in
-    in_grid a.g a.face a.cx a.cy c.loop-q.q a.right a.bottom c.requires.covered c.loop-q-test.true c.requires.sides c.if-right-q.true)
-    in
-    it)) in omega (arith, placed, c.well_formed.0.0)
+    let a = c.args in
+    let t = c.loop-q-test.true in
+    let inside = in_grid a.g a.face a.cx a.cy c.loop-q.q a.right a.bottom c.requires.covered t c.requires.sides c.if-right-q.true in
+    omega (arith, lies c.requires.placeable.room inside, place_by a.g a.face a.cx a.cy c.loop-q.q, c.well_formed.0.0)
 
 pub overflow_add-at : goal.overflow_add-at
 overflow_add-at c =
-    let placed : (c.args.face * c.args.g.distance + 2 * c.args.cy * c.args.g.pitch + 2 * c.args.cx * c.args.g.bytes + c.loop-q.q / 2 *
-    c.args.g.pitch + c.loop-q.q % 2 * c.args.g.bytes ≡ place_of c.args.g c.args.face (2 * c.args.cx + c.loop-q.q % 2)
-    (2 * c.args.cy + c.loop-q.q / 2)) = let a = c.args in place_by a.g a.face a.cx a.cy c.loop-q.q in
-    let l : Lies c.args.g c.args.face (2 * c.args.cx + c.loop-q.q % 2) (2 * c.args.cy + c.loop-q.q / 2)
-    (length c.args.dst.now) = lies c.requires.placeable.room ((let it : In c.args.g c.args.face (2 * c.args.cx + c.loop-q.q % 2)
-    (2 * c.args.cy + c.loop-q.q / 2) = (let a = c.args in
-    in_grid a.g a.face a.cx a.cy c.loop-q.q a.right a.bottom c.requires.covered c.loop-q-test.true c.requires.sides c.if-right-q.true)
-    in
-    it)) in omega (arith, placed, c.well_formed.0.0)
+    let a = c.args in
+    let t = c.loop-q-test.true in
+    let inside = in_grid a.g a.face a.cx a.cy c.loop-q.q a.right a.bottom c.requires.covered t c.requires.sides c.if-right-q.true in
+    omega (arith, lies c.requires.placeable.room inside, place_by a.g a.face a.cx a.cy c.loop-q.q, c.well_formed.0.0)
 
 pub overflow_mul-at-then-right-q : goal.overflow_mul-at-then-right-q
 overflow_mul-at-then-right-q c =
-    let placed : (c.args.face * c.args.g.distance + 2 * c.args.cy * c.args.g.pitch + 2 * c.args.cx * c.args.g.bytes + c.loop-q.q / 2 *
-    c.args.g.pitch + c.loop-q.q % 2 * c.args.g.bytes ≡ place_of c.args.g c.args.face (2 * c.args.cx + c.loop-q.q % 2)
-    (2 * c.args.cy + c.loop-q.q / 2)) = let a = c.args in place_by a.g a.face a.cx a.cy c.loop-q.q in
-    let l : Lies c.args.g c.args.face (2 * c.args.cx + c.loop-q.q % 2) (2 * c.args.cy + c.loop-q.q / 2)
-    (length c.args.dst.now) = lies c.requires.placeable.room ((let it : In c.args.g c.args.face (2 * c.args.cx + c.loop-q.q % 2)
-    (2 * c.args.cy + c.loop-q.q / 2) = (let a = c.args in
-    in_grid a.g a.face a.cx a.cy c.loop-q.q a.right a.bottom c.requires.covered c.loop-q-test.true c.requires.sides c.if-right-q.true)
-    in
-    it)) in omega (arith, placed, c.well_formed.0.0)
+    let a = c.args in
+    let t = c.loop-q-test.true in
+    let inside = in_grid a.g a.face a.cx a.cy c.loop-q.q a.right a.bottom c.requires.covered t c.requires.sides c.if-right-q.true in
+    omega (arith, lies c.requires.placeable.room inside, place_by a.g a.face a.cx a.cy c.loop-q.q, c.well_formed.0.0)
 
 pub overflow_add-at-then-right-q : goal.overflow_add-at-then-right-q
 overflow_add-at-then-right-q c =
-    let placed : (c.args.face * c.args.g.distance + 2 * c.args.cy * c.args.g.pitch + 2 * c.args.cx * c.args.g.bytes + c.loop-q.q / 2 *
-    c.args.g.pitch + c.loop-q.q % 2 * c.args.g.bytes ≡ place_of c.args.g c.args.face (2 * c.args.cx + c.loop-q.q % 2)
-    (2 * c.args.cy + c.loop-q.q / 2)) = let a = c.args in place_by a.g a.face a.cx a.cy c.loop-q.q in
-    let l : Lies c.args.g c.args.face (2 * c.args.cx + c.loop-q.q % 2) (2 * c.args.cy + c.loop-q.q / 2)
-    (length c.args.dst.now) = lies c.requires.placeable.room ((let it : In c.args.g c.args.face (2 * c.args.cx + c.loop-q.q % 2)
-    (2 * c.args.cy + c.loop-q.q / 2) = (let a = c.args in
-    in_grid a.g a.face a.cx a.cy c.loop-q.q a.right a.bottom c.requires.covered c.loop-q-test.true c.requires.sides c.if-right-q.true)
-    in
-    it)) in omega (arith, placed, c.well_formed.0.0)
+    let a = c.args in
+    let t = c.loop-q-test.true in
+    let inside = in_grid a.g a.face a.cx a.cy c.loop-q.q a.right a.bottom c.requires.covered t c.requires.sides c.if-right-q.true in
+    omega (arith, lies c.requires.placeable.room inside, place_by a.g a.face a.cx a.cy c.loop-q.q, c.well_formed.0.0)
 
 pub block-requires : goal.block-requires
 block-requires c =
-    let placed : (c.args.face * c.args.g.distance + 2 * c.args.cy * c.args.g.pitch + 2 * c.args.cx * c.args.g.bytes + c.loop-q.q / 2 *
-    c.args.g.pitch + c.loop-q.q % 2 * c.args.g.bytes ≡ place_of c.args.g c.args.face (2 * c.args.cx + c.loop-q.q % 2)
-    (2 * c.args.cy + c.loop-q.q / 2)) = let a = c.args in place_by a.g a.face a.cx a.cy c.loop-q.q in
-    let l : Lies c.args.g c.args.face (2 * c.args.cx + c.loop-q.q % 2) (2 * c.args.cy + c.loop-q.q / 2) (length c.args.dst.now) = lies
-    c.requires.placeable.room ((let it : In c.args.g c.args.face (2 * c.args.cx + c.loop-q.q % 2) (2 * c.args.cy + c.loop-q.q / 2) =
-    (let a = c.args in
-    in_grid a.g a.face a.cx a.cy c.loop-q.q a.right a.bottom c.requires.covered c.loop-q-test.true c.requires.sides c.if-right-q.true) in
-    it)) in
+    let a = c.args in
     let q = c.loop-q.q in
     let t = c.loop-q-test.true in
-    let f = c.requires.all_filled q t (inside_so c.args.right c.args.bottom q t c.if-right-q.true) in
+    let p = lent_of a.cends.now a.csels.now a.aends.now a.asels.now in
+    let l = lies c.requires.placeable.room
+    (in_grid a.g a.face a.cx a.cy q a.right a.bottom c.requires.covered t c.requires.sides c.if-right-q.true) in
     record {
       q_in = t;
-      room = omega (arith, placed, c.loop-q.invariant.1.long, c.requires.placeable.bytes);
-      filled
-          = subst (λ (k : ℕ). Filled ((lent_of c.args.cends.now c.args.csels.now c.args.aends.now c.args.asels.now)) c.args.ps
-          c.args.out.now
-          k q) (sym (c.tiles-tiles.ensures.each q t)) f;
+      room = omega (arith, l, place_by a.g a.face a.cx a.cy q, c.loop-q.invariant.1.long, c.requires.placeable.bytes);
+      filled = subst (λ (k : ℕ). Filled p a.ps a.out.now k q) (sym (c.tiles-tiles.ensures.each q t))
+          (c.requires.all_filled q t (inside_so a.right a.bottom q t c.if-right-q.true));
     }
 
 pub overflow_add-q : goal.overflow_add-q

@@ -58,13 +58,12 @@ returns-then-short c =
     let within : within_limits c.args.header ≡ true = sym c.within_limits.ensures ∙ c.if-not-within_limits.false in
     let holds : tables_hold ((record_by c.args.header c.args.counts c.args.chunk.now c.args.color_ends.now c.args.color_sels.now
     c.args.alpha_ends.now c.args.alpha_sels.now)).tables ≡ true = sym c.tables_hold-tables.ensures ∙ c.if-not-tables.false in
-    let out : goes_out c.args.header.format ≡ true = sym c.goes_out-swizzled.ensures ∙ c.if-swizzled.false in
     let total : c.total_of-total.result ≡ (dds_of c.args.header).plan.total = c.total_of-total.ensures ∙ ap
     (λ (n : ℕ). head_bytes + c.args.header.faces * n) c.chain_bytes-chain.ensures in
     no_12 dds_of ((record_by c.args.header c.args.counts c.args.chunk.now c.args.color_ends.now c.args.color_sels.now
     c.args.alpha_ends.now c.args.alpha_sels.now)) _ _ _ within
     holds
-    out
+    (sym c.goes_out-swizzled.ensures ∙ c.if-swizzled.false)
     (omega (arith, c.if-short.true, total))
     c.none-then-short.ensures
 

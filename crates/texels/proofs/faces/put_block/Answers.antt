@@ -11,3 +11,6 @@ put_whole-requires c =
     let sides = both_hold (leb (4 * c.args.x + 4) c.args.s.width) _
     (sym c.lies_within.ensures ∙ c.if-lies_within.true) in
     record { room = c.requires.room; x_whole = leb-true _ _ sides.0; y_whole = leb-true _ _ sides.1 }
+
+pub returns-then-lies_within : goal.returns-then-lies_within
+returns-then-lies_within c = c.put_whole.ensures
