@@ -11,16 +11,14 @@ use crn_formats::Counts;
 use crunch::{Needed, Written};
 
 // What a host has to lend for a DDS file of this header: refusal 2 or 16, or so many bytes.
-#[unsafe(no_mangle)]
-pub extern "C" fn crunch_dds_bytes(header: Header) -> Needed
+pub fn crunch_dds_bytes(header: Header) -> Needed
     ensures { result ≡ needed_for dds_of header }
 {
     crunch::dds_bytes(header)
 }
 
 // All levels of a record by its parts, as a DDS file in the first bytes of a lent destination.
-#[unsafe(no_mangle)]
-pub extern "C" fn crunch_write_dds_parts<'a>(
+pub fn crunch_write_dds_parts<'a>(
     header: Header,
     counts: Counts,
     chunk: &'a [u8; 8192],

@@ -46,8 +46,7 @@ fn flat(u: Unpacked) -> Answer
 }
 
 // A level unpacked into a lent destination, of a record by its parts.
-#[unsafe(no_mangle)]
-pub extern "C" fn crunch_unpack_level_parts<'a>(
+pub fn crunch_unpack_level_parts<'a>(
     header: Header,
     counts: Counts,
     chunk: &'a [u8; 8192],
@@ -90,8 +89,7 @@ pub extern "C" fn crunch_unpack_level_parts<'a>(
 }
 
 // The levels from `first` on to the last, of a record by its parts, one after another in a lent destination.
-#[unsafe(no_mangle)]
-pub extern "C" fn crunch_unpack_levels_parts<'a>(
+pub fn crunch_unpack_levels_parts<'a>(
     header: Header,
     counts: Counts,
     chunk: &'a [u8; 8192],

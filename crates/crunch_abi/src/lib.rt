@@ -1,4 +1,5 @@
-// The entry for C and Rust: what `rt staticlib` hands out. No function asks anything of its caller; an answer is a number or a flat struct by value.
+// The entry for C and Rust, which `crunch_abi_c` exports. No function asks anything of its caller; an answer is a number or a flat struct
+// by value.
 // A record is taken and given by its parts, so that its 41,000 bytes are never copied.
 #![tactic(auto)]
 
@@ -27,16 +28,14 @@ pub use sizes::{PaletteWords, crunch_level_sizes, crunch_palette_words};
 pub use version::crunch_abi_version;
 
 // The header of a file, by which a host sizes the palettes' buffers: refusal 1, 2 or 3 of opening, or 0.
-#[unsafe(no_mangle)]
-pub extern "C" fn crunch_look(file: &[u8]) -> Looked
+pub fn crunch_look(file: &[u8]) -> Looked
     ensures { result ≡ look_of file.now }
 {
     crunch::look(file)
 }
 
 // The same of a file of so many bytes that begins with these: its first 122 bytes, or all of a shorter one, are enough.
-#[unsafe(no_mangle)]
-pub extern "C" fn crunch_look_at(head: &[u8], length: usize) -> Looked
+pub fn crunch_look_at(head: &[u8], length: usize) -> Looked
     ensures { result ≡ look_at head.now length }
 {
     crunch::look_at(head, length)
@@ -44,8 +43,7 @@ pub extern "C" fn crunch_look_at(head: &[u8], length: usize) -> Looked
 
 // A file opened with four lent buffers, and its record by its parts: the header and the tables' counts in the answer, the tables' lengths in
 // five lent arrays.
-#[unsafe(no_mangle)]
-pub extern "C" fn crunch_open_parts(
+pub fn crunch_open_parts(
     file: &[u8],
     color_endpoints: &mut [u32],
     color_selectors: &mut [u32],

@@ -7,8 +7,7 @@ use crunch::OpenedHeader;
 
 // Refusal 17, with nothing touched that was lent, where the header is not what the look finds in this file; else what `crunch_open_parts`
 // answers and leaves.
-#[unsafe(no_mangle)]
-pub extern "C" fn crunch_load_parts(
+pub fn crunch_load_parts(
     header: Header,
     file: &[u8],
     color_endpoints: &mut [u32],

@@ -17,8 +17,7 @@ pub struct PaletteWords {
 }
 
 // The words of the four palettes: an alpha selector is three, and a plane without endpoints has none.
-#[unsafe(no_mangle)]
-pub extern "C" fn crunch_palette_words(header: Header) -> PaletteWords
+pub fn crunch_palette_words(header: Header) -> PaletteWords
     ensures { result ≡ palette_words header }
 {
     let color_ends = header.color_endpoints;
@@ -44,8 +43,7 @@ fn where_present(endpoints: u32, words: usize) -> usize
 }
 
 // The sizes of a level whose rows and faces stand close together.
-#[unsafe(no_mangle)]
-pub extern "C" fn crunch_level_sizes(header: Header, level: u32) -> LevelSizes
+pub fn crunch_level_sizes(header: Header, level: u32) -> LevelSizes
     ensures { result ≡ level_sizes header level }
 {
     level_sizes(header, level)

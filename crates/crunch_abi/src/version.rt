@@ -6,8 +6,7 @@ ghost use Rattle.crunch_abi.specs.Version.{abi_version};
 const ABI_VERSION: u32 = 1;
 
 // The version that this archive has.
-#[unsafe(no_mangle)]
-pub extern "C" fn crunch_abi_version() -> u32
+pub fn crunch_abi_version() -> u32
     ensures { result ≡ abi_version }
 {
     ABI_VERSION

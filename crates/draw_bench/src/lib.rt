@@ -34,8 +34,7 @@ fn total(lengths: &[u8], lookup: &[u32], sorted: &[u16], seg: &[u8], n: usize) -
 }
 
 // The sum of n symbols drawn from the segment, modulo 2^64; 0 where the lengths make no code or a draw fails.
-#[unsafe(no_mangle)]
-pub extern "C" fn sum_of_draws(lengths: &[u8], seg: &[u8], n: usize) -> u64
+pub fn sum_of_draws(lengths: &[u8], seg: &[u8], n: usize) -> u64
     ensures { result ≡ sum_of_draws lengths.now seg.now n }
 {
     if 8192 < lengths.len() {
