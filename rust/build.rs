@@ -14,6 +14,22 @@ fn fail(why: String) -> ! {
 /// What a build without the means is told.
 const ELSEWHERE: &str = "an archive that was made elsewhere can be named by CRUNCH_ABI_ARCHIVE=path";
 
+/// What the archive is made of, as paths from the package's folder: of each crate all but what `rt` leaves in its out/.
+fn sources(root: &Path) -> Vec<String> {
+    let names = |folder: &Path| -> Vec<String> {
+        let entries = std::fs::read_dir(folder).map(|entries| entries.flatten().collect::<Vec<_>>()).unwrap_or_default();
+        let mut names: Vec<String> = entries.into_iter().filter_map(|entry| entry.file_name().into_string().ok()).collect();
+        names.sort();
+        names
+    };
+    let crates = root.join("crates");
+    let parts = names(&crates).into_iter().flat_map(|name| {
+        let parts = names(&crates.join(&name)).into_iter().filter(|part| !["out", "must-fail"].contains(&part.as_str()));
+        parts.map(|part| format!("../crates/{name}/{part}")).collect::<Vec<_>>()
+    });
+    ["archive", "../crates.txt"].map(String::from).into_iter().chain(parts).collect()
+}
+
 /// The archive of `rust/archive`, as a path from the package's folder, which cargo then looks at wherever the checkout stands.
 fn made(package: &Path, target: &str) -> PathBuf {
     let root = package.parent().filter(|root| root.join("crates.txt").is_file() && package.join("archive").is_file());
@@ -23,7 +39,7 @@ fn made(package: &Path, target: &str) -> PathBuf {
     if var("CARGO_CFG_TARGET_OS").as_deref() != Ok("linux") {
         fail(format!("for {target} no archive can be made here, only for Linux; {ELSEWHERE}"));
     }
-    for source in ["archive", "../crates", "../crates.txt"] {
+    for source in sources(root) {
         println!("cargo::rerun-if-changed={source}");
     }
     let machine = var("CARGO_CFG_TARGET_ARCH").expect("cargo sets it");

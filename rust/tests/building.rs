@@ -1,7 +1,7 @@
 //! `rust/archive`, `build.rs` and `./crn`, in small checkouts with a toolchain of scripts: where an archive comes from, and what a person
 //! is told.
 mod common;
-use common::{room, root, told};
+use common::{root, told};
 use std::env::consts::ARCH;
 use std::io::{BufRead, BufReader, Read};
 use std::path::{Path, PathBuf};
@@ -16,44 +16,39 @@ fn script(path: &Path, text: &str) {
     std::fs::set_permissions(path, permissions).unwrap();
 }
 
-/// Makes an archive of a crate, with one object, which tells the crate and the checkout's text. It notes for which crates it was called.
+/// Called in the folder of a library's exports, for any x86-64 processor or for a target: makes an archive of them, with one object, which
+/// tells the library, the checkout's text and the target. It notes for which libraries it was called.
 const RT: &str = "\
-echo $2 >>../calls
-of=$(cat crates/one/lib.rt) PATH=$RATTLE_HOME/on/$(uname -m)/toolchain/bin:$PATH
-mkdir -p target/staticlib
-cd target/staticlib
-echo $2 of $of >$2.bc
-clang $2.bc -o $2.o
-llvm-ar rcs lib$2.a $2.o";
-
-/// Hands a file on; to an object it adds the target, where one is named.
-const CLANG: &str = "\
-for a; do
-    case $last in -o) out=$a ;; *) case $a in *.bc | *.ll) in=$a ;; --target=*) target=${a#*=} ;; esac ;; esac
-    last=$a
-done
-case $out in *.o) ;; *) target= ;; esac
-{ cat \"$in\"; [ -z \"$target\" ] || echo for $target; } >\"$out\"";
+name=${PWD##*/} of=$(cat ../one/lib.rt)
+case $* in 'lib --cpu x86-64') target= ;; 'lib --target '*) target=$3 ;; *) exit 2 ;; esac
+echo ${name%_c} >>../../../calls
+mkdir -p out
+cd out
+{ echo ${name%_c} of $of; [ -z \"$target\" ] || echo for $target; } >$name.o
+rm -f lib$name.a
+\"${0%/bin/rt}/toolchain/bin/llvm-ar\" rcs lib$name.a $name.o";
 
 /// What a person without the means is told.
 const ELSEWHERE: &str = "an archive that was made elsewhere can be named by CRUNCH_ABI_ARCHIVE=path\n";
 
 /// What the scripts call, without flock.
-const TOOLS: &str = "sh awk basename cat chmod cp cut date dirname env find ln mkdir mktemp mv pwd readlink rm sed sha256sum sleep sort \
-                     tail tee touch uname";
+const TOOLS: &str = "sh basename cat chmod cp cut date dirname env find ln mkdir mktemp mv pwd readlink rm sed sha256sum sleep sort tail \
+                     tee touch uname";
 
-/// A room with a folder of tools, a kit with this `rt`, and checkouts. One at a time: a script that is open to be written can't be run, and
-/// what another thread starts has it open for a moment.
+/// A room with a folder of tools, a kit with this `rt`, and checkouts, outside the repository: `rt ci` wants no other checkout's files in it.
+/// One at a time: a script that is open to be written can't be run, and what another thread starts has it open for a moment.
 struct Place(PathBuf, #[allow(dead_code)] MutexGuard<'static, ()>);
 
 impl Place {
     fn new(name: &str, rt: &str) -> Place {
         static ONE: Mutex<()> = Mutex::new(());
         let one = ONE.lock().unwrap_or_else(|failed| failed.into_inner());
-        let place = Place(room(name).canonicalize().unwrap(), one);
-        let toolchain = place.0.join("kit/on").join(ARCH).join("toolchain/bin");
+        let room = std::env::temp_dir().join(format!("crunch-proved-{}-{name}", std::process::id()));
+        std::fs::create_dir_all(&room).unwrap();
+        let place = Place(room.canonicalize().unwrap(), one);
+        let toolchain = place.0.join("kit/toolchain/bin");
         script(&place.0.join("kit/bin/rt"), rt);
-        script(&toolchain.join("clang"), CLANG);
+        std::fs::create_dir_all(&toolchain).unwrap();
         std::os::unix::fs::symlink(found("ar"), toolchain.join("llvm-ar")).unwrap();
         std::fs::write(place.0.join("kit/KIT-ID"), "a kit of scripts\n").unwrap();
         std::fs::create_dir(place.0.join("tools")).unwrap();
@@ -67,11 +62,13 @@ impl Place {
         std::os::unix::fs::symlink(found(name), self.0.join("tools").join(name)).unwrap();
     }
 
-    /// A checkout with one crate, whose text is the checkout's name.
+    /// A checkout with one crate, whose text is the checkout's name, and the folders of what is exported.
     fn checkout(&self, name: &str) -> PathBuf {
         let checkout = self.0.join(name);
         std::fs::create_dir_all(checkout.join("rust/src")).unwrap();
-        std::fs::create_dir_all(checkout.join("crates/one")).unwrap();
+        for of in ["one", "crunch_abi_c", "texels_abi_c", "draw_bench_c"] {
+            std::fs::create_dir_all(checkout.join("crates").join(of)).unwrap();
+        }
         std::fs::write(checkout.join("crates.txt"), "one:\n").unwrap();
         std::fs::write(checkout.join("crates/one/lib.rt"), name).unwrap();
         ["crn", "rust/archive", "rust/build.rs"].iter().for_each(|file| {
@@ -85,7 +82,7 @@ impl Place {
         let mut command = Command::new(self.0.join(program));
         let folders = [self.0.join("kit/bin"), self.0.join("tools")];
         command.env("PATH", std::env::join_paths(&folders[if with_kit { 0 } else { 1 }..]).unwrap());
-        command.env_remove("RATTLE_HOME").env_remove("CRUNCH_ABI_ARCHIVE");
+        command.env_remove("CRUNCH_ABI_ARCHIVE");
         command
     }
 
@@ -99,6 +96,12 @@ impl Place {
     /// How often `rt` was called for the first crate of the archive.
     fn calls(&self) -> usize {
         std::fs::read_to_string(self.0.join("calls")).map_or(0, |calls| calls.lines().filter(|name| *name == "crunch_abi").count())
+    }
+}
+
+impl Drop for Place {
+    fn drop(&mut self) {
+        let _ = std::fs::remove_dir_all(&self.0);
     }
 }
 
@@ -132,7 +135,7 @@ fn of(text: &str) -> Vec<(String, String)> {
 #[test]
 fn of_two_archives_at_once_one_is_made() {
     for flock in [true, false] {
-        let place = Place::new(if flock { "at-once-flock" } else { "at-once-mkdir" }, &format!("[ -f ../quick ] || sleep 1; {RT}"));
+        let place = Place::new(if flock { "at-once-flock" } else { "at-once-mkdir" }, &format!("[ -f ../../../quick ] || sleep 1; {RT}"));
         if flock {
             place.tool("flock");
         }
@@ -165,24 +168,26 @@ fn an_archive_has_an_object_of_each_of_its_crates() {
     assert_eq!(made(&["crunch_abi", "x86_64"]), (format!("{}libcrunch_abi.a", folder("x86_64")), of("a")));
     let alone = vec![("draw_bench.o".to_string(), "draw_bench of a\n".to_string())];
     assert_eq!(made(&["draw_bench", "x86_64"]), (format!("{}libdraw_bench.a", folder("x86_64")), alone));
-    let arm = of("a").into_iter().map(|(name, text)| (name, text + "for aarch64-linux-gnu\n")).collect::<Vec<_>>();
+    let arm = of("a").into_iter().map(|(name, text)| (name, text + "for aarch64-unknown-linux-gnu\n")).collect::<Vec<_>>();
     assert_eq!(made(&["crunch_abi", "aarch64"]), (format!("{}libcrunch_abi.a", folder("aarch64")), arm));
 }
 
 /// Nothing is made where one of the crates is not proved.
 #[test]
 fn without_one_of_its_crates_there_is_no_archive() {
-    let place = Place::new("one-missing", &format!("[ $2 = crunch_abi ] || {{ echo \"rt: $2: NOT PROVED\"; exit 1; }}; {RT}"));
+    let no = "rt: the library texels_abi did not build, so nothing above it was checked";
+    let place = Place::new("one-missing", &format!("[ ${{PWD##*/}} = crunch_abi_c ] || {{ echo '{no}'; exit 1; }}; {RT}"));
     let (status, out, said) = told(place.archive(true).output().unwrap());
-    assert!((status, out.as_str()) == (1, "") && said.contains("rt: texels_abi: NOT PROVED"), "{said}");
+    assert!((status, out.as_str()) == (1, "") && said.contains(no), "{said}");
     assert!(!place.0.join("a/target/host/libcrunch_abi.a").exists());
 }
 
 /// A crate is shown before the one after it is done: this `rt` waits until somebody has seen it.
 #[test]
 fn each_crate_is_shown_as_it_is_proved() {
-    let waits = "echo 'rt: one proved (1 s)'; for i in 0 1 2 3 4 5 6 7 8 9; do [ -f ../seen ] || sleep 1; done; [ -f ../seen ] || exit 1";
-    let place = Place::new("shown", &format!("{waits}; {RT}"));
+    let proved = "echo 'crate one: modules loaded=0 checked=9'; echo 'logic=proved functions=3 sum=0'";
+    let waits = "for i in 0 1 2 3 4 5 6 7 8 9; do [ -f ../../../seen ] || sleep 1; done; [ -f ../../../seen ] || exit 1";
+    let place = Place::new("shown", &format!("{proved}; {waits}; {RT}"));
     let mut child = place.archive(true).stdout(Stdio::piped()).stderr(Stdio::piped()).spawn().unwrap();
     let mut said = BufReader::new(child.stderr.take().unwrap());
     let (mut line, mut rest) = (String::new(), String::new());
@@ -192,8 +197,8 @@ fn each_crate_is_shown_as_it_is_proved() {
     said.read_line(&mut line).unwrap();
     std::fs::write(place.0.join("seen"), "").unwrap();
     said.read_to_string(&mut rest).unwrap();
-    let second = "rust/archive: proving texels_abi and the crates that it uses\n  one proved (1 s)\n";
-    assert_eq!((line.as_str(), rest.as_str(), child.wait().unwrap().code()), ("  one proved (1 s)\n", second, Some(0)));
+    let second = "rust/archive: proving texels_abi and the crates that it uses\n  one proved (functions: 3)\n";
+    assert_eq!((line.as_str(), rest.as_str(), child.wait().unwrap().code()), ("  one proved (functions: 3)\n", second, Some(0)));
 }
 
 #[test]
@@ -257,8 +262,8 @@ fn each_checkout_links_its_own_archive() {
         let (status, out, _) = build(&place, true, &package, &[]);
         assert_eq!((status, objects(&place.0.join("out/libcrunch_abi.a"))), (0, of(name)));
         let watched: Vec<&str> = out.lines().filter_map(|line| line.strip_prefix("cargo::rerun-if-changed=")).collect();
-        let stays = |path: &&str| !path.starts_with('/') && package.join(path).exists();
-        assert!(watched.contains(&"../crates") && watched.iter().all(stays), "{out}");
+        let stays = |path: &&str| !path.starts_with('/') && !path.contains("/out") && package.join(path).exists();
+        assert!(watched.contains(&"../crates/one/lib.rt") && watched.iter().all(stays), "{out}");
         assert!(out.contains(&format!("cargo::rustc-link-search=native={}\n", place.0.join("out").display())));
     }
 }
