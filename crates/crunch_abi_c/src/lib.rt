@@ -4,8 +4,8 @@
 
 ghost use Rattle.std.specs.Prelude.{◌≡◌};
 ghost use Rattle.crn_format.specs.Look.{look_at, look_of};
-ghost use Rattle.crn_format.specs.Opening.{opening as «openingOf»};
-ghost use Rattle.crn_format.specs.Unpacking.{unpacking as «unpackingOf»};
+ghost use Rattle.crn_format.specs.Opening.{opening as opening_of};
+ghost use Rattle.crn_format.specs.Unpacking.{unpacking as unpacking_of};
 ghost use Rattle.crn_formats.specs.Lent.{lent_of};
 ghost use Rattle.crn_formats.specs.Records.{record_by};
 ghost use Rattle.crn_levels.specs.Several.{several_of, Gives};
@@ -62,7 +62,7 @@ pub extern "C" fn crunch_open_parts(
     alpha_ends: &mut [u8; 8192],
     alpha_sels: &mut [u8; 8192],
 ) -> OpenedHeader
-    ensures { Opens («openingOf» file.now (lent_of color_endpoints.old color_selectors.old alpha_endpoints.old alpha_selectors.old)) (lent_of color_endpoints.new color_selectors.new alpha_endpoints.new alpha_selectors.new) (opened_by result chunk.new color_ends.new color_sels.new alpha_ends.new alpha_sels.new) }
+    ensures { Opens (opening_of file.now (lent_of color_endpoints.old color_selectors.old alpha_endpoints.old alpha_selectors.old)) (lent_of color_endpoints.new color_selectors.new alpha_endpoints.new alpha_selectors.new) (opened_by result chunk.new color_ends.new color_sels.new alpha_ends.new alpha_sels.new) }
 {
     crunch_abi::crunch_open_parts(
         file,
@@ -157,7 +157,7 @@ pub extern "C" fn crunch_unpack_level_parts<'a>(
     budget: &mut u64,
     dst: &mut [u8],
 ) -> Answer
-    ensures { Answers («unpackingOf» (record_by header counts chunk.now color_ends.now color_sels.now alpha_ends.now alpha_sels.now) file.now (lent_of color_endpoints.now color_selectors.now alpha_endpoints.now alpha_selectors.now) level pitch distance budget.old dst.old) budget.old budget.new dst.new result }
+    ensures { Answers (unpacking_of (record_by header counts chunk.now color_ends.now color_sels.now alpha_ends.now alpha_sels.now) file.now (lent_of color_endpoints.now color_selectors.now alpha_endpoints.now alpha_selectors.now) level pitch distance budget.old dst.old) budget.old budget.new dst.new result }
 {
     crunch_abi::crunch_unpack_level_parts(
         header,
