@@ -1,7 +1,7 @@
 //! `rust/archive`, `build.rs` and `./crn`, in small checkouts with a toolchain of scripts: where an archive comes from, and what a person
 //! is told.
 mod common;
-use common::{root, told};
+use common::{room, root, told};
 use std::env::consts::ARCH;
 use std::io::{BufRead, BufReader, Read};
 use std::path::{Path, PathBuf};
@@ -35,17 +35,15 @@ const ELSEWHERE: &str = "an archive that was made elsewhere can be named by CRUN
 const TOOLS: &str = "sh basename cat chmod cp cut date dirname env find ln mkdir mktemp mv pwd readlink rm sed sha256sum sleep sort tail \
                      tee touch uname";
 
-/// A room with a folder of tools, a kit with this `rt`, and checkouts, outside the repository: `rt ci` wants no other checkout's files in it.
-/// One at a time: a script that is open to be written can't be run, and what another thread starts has it open for a moment.
+/// A room with a folder of tools, a kit with this `rt`, and checkouts. One at a time: a script that is open to be written can't be run, and
+/// what another thread starts has it open for a moment.
 struct Place(PathBuf, #[allow(dead_code)] MutexGuard<'static, ()>);
 
 impl Place {
     fn new(name: &str, rt: &str) -> Place {
         static ONE: Mutex<()> = Mutex::new(());
         let one = ONE.lock().unwrap_or_else(|failed| failed.into_inner());
-        let room = std::env::temp_dir().join(format!("crunch-proved-{}-{name}", std::process::id()));
-        std::fs::create_dir_all(&room).unwrap();
-        let place = Place(room.canonicalize().unwrap(), one);
+        let place = Place(room(name).canonicalize().unwrap(), one);
         let toolchain = place.0.join("kit/toolchain/bin");
         script(&place.0.join("kit/bin/rt"), rt);
         std::fs::create_dir_all(&toolchain).unwrap();
@@ -96,12 +94,6 @@ impl Place {
     /// How often `rt` was called for the first crate of the archive.
     fn calls(&self) -> usize {
         std::fs::read_to_string(self.0.join("calls")).map_or(0, |calls| calls.lines().filter(|name| *name == "crunch_abi").count())
-    }
-}
-
-impl Drop for Place {
-    fn drop(&mut self) {
-        let _ = std::fs::remove_dir_all(&self.0);
     }
 }
 

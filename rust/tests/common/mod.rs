@@ -79,9 +79,9 @@ pub fn hash(bytes: impl IntoIterator<Item = u8>) -> u64 {
     bytes.into_iter().fold(0xcbf29ce484222325, |h, b| (h ^ b as u64).wrapping_mul(0x100000001b3))
 }
 
-/// An empty folder for one test.
+/// An empty folder for one test, outside the repository, in which `rt ci` wants no links; each checkout has its own.
 pub fn room(name: &str) -> PathBuf {
-    let room = Path::new(env!("CARGO_TARGET_TMPDIR")).join(name);
+    let room = std::env::temp_dir().join(format!("crunch-proved-{:x}", hash(env!("CARGO_TARGET_TMPDIR").bytes()))).join(name);
     let _ = std::fs::remove_dir_all(&room);
     std::fs::create_dir_all(&room).unwrap();
     room
