@@ -2,7 +2,6 @@
 //! is told.
 mod common;
 use common::{room, root, told};
-use std::env::consts::ARCH;
 use std::io::{BufRead, BufReader, Read};
 use std::path::{Path, PathBuf};
 use std::process::{Command, Stdio};
@@ -16,24 +15,14 @@ fn script(path: &Path, text: &str) {
     std::fs::set_permissions(path, permissions).unwrap();
 }
 
-/// Called in the folder of a library's exports, for any x86-64 processor or for a target: makes an archive of them, with one object, which
-/// tells the library, the checkout's text and the target. It notes for which libraries it was called.
-const RT: &str = "\
-name=${PWD##*/} of=$(cat ../one/lib.rt)
-case $* in 'lib --cpu x86-64') target= ;; 'lib --target '*) target=$3 ;; *) exit 2 ;; esac
-echo ${name%_c} >>../../../calls
-mkdir -p out
-cd out
-{ echo ${name%_c} of $of; [ -z \"$target\" ] || echo for $target; } >$name.o
-rm -f lib$name.a
-\"${0%/bin/rt}/toolchain/bin/llvm-ar\" rcs lib$name.a $name.o";
+/// Makes an archive of a checkout, and counts its calls.
+const RT: &str = "echo rt >>../../../calls; mkdir -p out; { echo '!<arch>'; cat ../one/lib.rt; } >out/lib${PWD##*/}.a";
 
 /// What a person without the means is told.
 const ELSEWHERE: &str = "an archive that was made elsewhere can be named by CRUNCH_ABI_ARCHIVE=path\n";
 
 /// What the scripts call, without flock.
-const TOOLS: &str = "sh basename cat chmod cp cut date dirname env find ln mkdir mktemp mv pwd readlink rm sed sha256sum sleep sort tail \
-                     tee touch uname";
+const TOOLS: &str = "sh cat cp cut date dirname env find mkdir mktemp mv pwd readlink rm sed sha256sum sleep sort tail tee touch uname";
 
 /// A room with a folder of tools, a kit with this `rt`, and checkouts. One at a time: a script that is open to be written can't be run, and
 /// what another thread starts has it open for a moment.
@@ -44,10 +33,7 @@ impl Place {
         static ONE: Mutex<()> = Mutex::new(());
         let one = ONE.lock().unwrap_or_else(|failed| failed.into_inner());
         let place = Place(room(name).canonicalize().unwrap(), one);
-        let toolchain = place.0.join("kit/toolchain/bin");
         script(&place.0.join("kit/bin/rt"), rt);
-        std::fs::create_dir_all(&toolchain).unwrap();
-        std::os::unix::fs::symlink(found("ar"), toolchain.join("llvm-ar")).unwrap();
         std::fs::write(place.0.join("kit/KIT-ID"), "a kit of scripts\n").unwrap();
         std::fs::create_dir(place.0.join("tools")).unwrap();
         TOOLS.split(' ').for_each(|tool| place.tool(tool));
@@ -57,16 +43,17 @@ impl Place {
 
     /// A tool of this machine.
     fn tool(&self, name: &str) {
-        std::os::unix::fs::symlink(found(name), self.0.join("tools").join(name)).unwrap();
+        let path = std::env::var_os("PATH").unwrap();
+        let found = std::env::split_paths(&path).map(|folder| folder.join(name)).find(|file| file.is_file());
+        std::os::unix::fs::symlink(found.unwrap_or_else(|| panic!("no {name} in PATH")), self.0.join("tools").join(name)).unwrap();
     }
 
-    /// A checkout with one crate, whose text is the checkout's name, and the folders of what is exported.
+    /// A checkout with one crate, whose text is the checkout's name, and the folder of what is exported.
     fn checkout(&self, name: &str) -> PathBuf {
         let checkout = self.0.join(name);
         std::fs::create_dir_all(checkout.join("rust/src")).unwrap();
-        for of in ["one", "crunch_abi_c", "texels_abi_c", "draw_bench_c"] {
-            std::fs::create_dir_all(checkout.join("crates").join(of)).unwrap();
-        }
+        std::fs::create_dir_all(checkout.join("crates/one")).unwrap();
+        std::fs::create_dir_all(checkout.join("crates/crunch_abi_c")).unwrap();
         std::fs::write(checkout.join("crates.txt"), "one:\n").unwrap();
         std::fs::write(checkout.join("crates/one/lib.rt"), name).unwrap();
         ["crn", "rust/archive", "rust/build.rs"].iter().for_each(|file| {
@@ -80,7 +67,7 @@ impl Place {
         let mut command = Command::new(self.0.join(program));
         let folders = [self.0.join("kit/bin"), self.0.join("tools")];
         command.env("PATH", std::env::join_paths(&folders[if with_kit { 0 } else { 1 }..]).unwrap());
-        command.env_remove("CRUNCH_ABI_ARCHIVE");
+        command.env_remove("RATTLE_HOME").env_remove("CRUNCH_ABI_ARCHIVE");
         command
     }
 
@@ -91,37 +78,17 @@ impl Place {
         command
     }
 
-    /// How often `rt` was called for the first crate of the archive.
+    /// How often `rt` was called.
     fn calls(&self) -> usize {
-        std::fs::read_to_string(self.0.join("calls")).map_or(0, |calls| calls.lines().filter(|name| *name == "crunch_abi").count())
+        std::fs::read_to_string(self.0.join("calls")).map_or(0, |calls| calls.lines().count())
     }
 }
 
-/// Where a tool of this machine is.
-fn found(name: &str) -> PathBuf {
-    let path = std::env::var_os("PATH").unwrap();
-    let found = std::env::split_paths(&path).map(|folder| folder.join(name)).find(|file| file.is_file());
-    found.unwrap_or_else(|| panic!("no {name} in PATH"))
-}
-
-/// The objects of an archive, and what each holds.
-fn objects(archive: &Path) -> Vec<(String, String)> {
-    let ar = |words: &[&str]| {
-        let (status, out, said) = told(Command::new("ar").args(&words[..1]).arg(archive).args(&words[1..]).output().unwrap());
-        assert_eq!((status, said.as_str()), (0, ""), "{}", archive.display());
-        out
-    };
-    ar(&["t"]).lines().map(|name| (name.to_string(), ar(&["p", name]))).collect()
-}
-
-/// Those of the archive whose path was printed.
-fn printed(out: &str) -> Vec<(String, String)> {
-    objects(Path::new(out.strip_suffix('\n').unwrap()))
-}
-
-/// Those that the archive of a checkout with this text has: one of each crate that exports something.
-fn of(text: &str) -> Vec<(String, String)> {
-    ["crunch_abi", "texels_abi"].map(|name| (format!("{name}.o"), format!("{name} of {text}\n"))).to_vec()
+/// The path that was printed, and what is there.
+fn printed(out: &str) -> (PathBuf, String) {
+    let path = PathBuf::from(out.strip_suffix('\n').unwrap());
+    let archive = std::fs::read_to_string(&path).unwrap();
+    (path, archive)
 }
 
 #[test]
@@ -135,51 +102,25 @@ fn of_two_archives_at_once_one_is_made() {
         let both = [start(), start()].map(|child| told(child.wait_with_output().unwrap()));
         assert!(both.iter().all(|(status, ..)| *status == 0), "{both:?}");
         assert_eq!(both[0].1, both[1].1);
-        assert_eq!((printed(&both[0].1), place.calls()), (of("a"), 1));
+        assert_eq!((printed(&both[0].1).1.as_str(), place.calls()), ("!<arch>\na", 1));
         let waited = |said: &(i32, String, String)| said.2.starts_with("rust/archive: waiting for another build in this folder");
         assert_eq!(both.iter().filter(|said| waited(said)).count(), 1, "{both:?}");
         // nothing is left that the next one would wait for
         std::fs::write(place.0.join("quick"), "").unwrap();
         std::fs::write(place.0.join("a/crates/one/lib.rt"), "anew").unwrap();
         let (status, out, said) = told(place.archive(true).output().unwrap());
-        assert_eq!((status, printed(&out), place.calls()), (0, of("anew"), 2));
+        assert_eq!((status, printed(&out).1.as_str(), place.calls()), (0, "!<arch>\nanew", 2));
         assert!(!said.contains("waiting"), "{said}");
     }
-}
-
-/// Another crate's archive has its own object alone; for another processor each object is that processor's.
-#[test]
-fn an_archive_has_an_object_of_each_of_its_crates() {
-    let place = Place::new("objects", RT);
-    let made = |words: &[&str]| {
-        let (status, out, said) = told(place.command("a/rust/archive", true).args(words).output().unwrap());
-        assert_eq!(status, 0, "{said}");
-        (out.strip_prefix(&format!("{}/a/target/host/", place.0.display())).unwrap().trim_end().to_string(), printed(&out))
-    };
-    let folder = |machine: &str| if machine == ARCH { String::new() } else { format!("{machine}/") };
-    assert_eq!(made(&["crunch_abi", "x86_64"]), (format!("{}libcrunch_abi.a", folder("x86_64")), of("a")));
-    let alone = vec![("draw_bench.o".to_string(), "draw_bench of a\n".to_string())];
-    assert_eq!(made(&["draw_bench", "x86_64"]), (format!("{}libdraw_bench.a", folder("x86_64")), alone));
-    let arm = of("a").into_iter().map(|(name, text)| (name, text + "for aarch64-unknown-linux-gnu\n")).collect::<Vec<_>>();
-    assert_eq!(made(&["crunch_abi", "aarch64"]), (format!("{}libcrunch_abi.a", folder("aarch64")), arm));
-}
-
-/// Nothing is made where one of the crates is not proved.
-#[test]
-fn without_one_of_its_crates_there_is_no_archive() {
-    let no = "rt: the library texels_abi did not build, so nothing above it was checked";
-    let place = Place::new("one-missing", &format!("[ ${{PWD##*/}} = crunch_abi_c ] || {{ echo '{no}'; exit 1; }}; {RT}"));
-    let (status, out, said) = told(place.archive(true).output().unwrap());
-    assert!((status, out.as_str()) == (1, "") && said.contains(no), "{said}");
-    assert!(!place.0.join("a/target/host/libcrunch_abi.a").exists());
 }
 
 /// A crate is shown before the one after it is done: this `rt` waits until somebody has seen it.
 #[test]
 fn each_crate_is_shown_as_it_is_proved() {
-    let proved = "echo 'crate one: modules loaded=0 checked=9'; echo 'logic=proved functions=3 sum=0'";
-    let waits = "for i in 0 1 2 3 4 5 6 7 8 9; do [ -f ../../../seen ] || sleep 1; done; [ -f ../../../seen ] || exit 1";
-    let place = Place::new("shown", &format!("{proved}; {waits}; {RT}"));
+    let waits = "echo 'crate one: modules loaded=0 checked=9'; echo 'logic=proved functions=1 sum=0'; \
+                 for i in 0 1 2 3 4 5 6 7 8 9; do [ -f ../../../seen ] || sleep 1; done; [ -f ../../../seen ] || exit 1; \
+                 mkdir -p out; echo '!<arch>' >out/libcrunch_abi_c.a";
+    let place = Place::new("shown", waits);
     let mut child = place.archive(true).stdout(Stdio::piped()).stderr(Stdio::piped()).spawn().unwrap();
     let mut said = BufReader::new(child.stderr.take().unwrap());
     let (mut line, mut rest) = (String::new(), String::new());
@@ -189,8 +130,7 @@ fn each_crate_is_shown_as_it_is_proved() {
     said.read_line(&mut line).unwrap();
     std::fs::write(place.0.join("seen"), "").unwrap();
     said.read_to_string(&mut rest).unwrap();
-    let second = "rust/archive: proving texels_abi and the crates that it uses\n  one proved (functions: 3)\n";
-    assert_eq!((line.as_str(), rest.as_str(), child.wait().unwrap().code()), ("  one proved (functions: 3)\n", second, Some(0)));
+    assert_eq!((line.as_str(), rest.as_str(), child.wait().unwrap().code()), ("  one proved (functions: 1)\n", "", Some(0)));
 }
 
 #[test]
@@ -216,7 +156,7 @@ fn a_processor_that_no_archive_can_be_made_for_is_told() {
     let no = format!("rust/archive: for vax no archive can be made here; {ELSEWHERE}");
     assert_eq!(told(vax), (1, String::new(), no));
     // and the other's is left alone
-    assert_eq!((printed(&made), place.calls()), (of("a"), 1));
+    assert_eq!((printed(&made).1.as_str(), place.calls()), ("!<arch>\na", 1));
 }
 
 /// build.rs as a program, which cargo would run.
@@ -252,9 +192,9 @@ fn each_checkout_links_its_own_archive() {
     for name in ["a", "b"] {
         let package = place.checkout(name).join("rust");
         let (status, out, _) = build(&place, true, &package, &[]);
-        assert_eq!((status, objects(&place.0.join("out/libcrunch_abi.a"))), (0, of(name)));
+        assert_eq!((status, linked(&place)), (0, format!("!<arch>\n{name}")));
         let watched: Vec<&str> = out.lines().filter_map(|line| line.strip_prefix("cargo::rerun-if-changed=")).collect();
-        let stays = |path: &&str| !path.starts_with('/') && !path.contains("/out") && package.join(path).exists();
+        let stays = |path: &&str| !path.starts_with('/') && package.join(path).exists();
         assert!(watched.contains(&"../crates/one/lib.rt") && watched.iter().all(stays), "{out}");
         assert!(out.contains(&format!("cargo::rustc-link-search=native={}\n", place.0.join("out").display())));
     }
@@ -317,7 +257,7 @@ const CARGO: &str = "echo cargo >>../../builds; mkdir -p ../target/cargo/release
 #[test]
 fn crn_is_built_anew_where_anything_changed() {
     let place = Place::new("a room for crn", RT);
-    place.tool("flock");
+    ["flock", "chmod"].iter().for_each(|tool| place.tool(tool));
     script(&place.0.join("tools/cargo"), CARGO);
     let builds = || std::fs::read_to_string(place.0.join("builds")).map_or(0, |builds| builds.lines().count());
     let says = |checkout: &str, text: &str, built: usize| {
@@ -364,4 +304,44 @@ fn crn_is_built_anew_where_anything_changed() {
     assert_eq!(named("none.a"), (1, String::new(), "crn: CRUNCH_ABI_ARCHIVE names none.a, and there is no such file\n".into()));
     // and its own again
     says("c", "late", 9);
+}
+
+/// Of a crate's exports the archive is made, for any processor of its machine's kind, and each other machine's has a folder of its own.
+#[test]
+fn an_archive_is_of_its_crate_and_its_processor() {
+    let place = Place::new("crates", &format!("echo ${{PWD##*/}} $* >>../../../words; {RT}"));
+    std::fs::create_dir(place.0.join("a/crates/draw_bench_c")).unwrap();
+    for (crate_name, machine) in [("crunch_abi", "x86_64"), ("draw_bench", "x86_64"), ("crunch_abi", "aarch64")] {
+        let (status, out, said) = told(place.command("a/rust/archive", true).args([crate_name, machine]).output().unwrap());
+        let folder = if machine == std::env::consts::ARCH { String::new() } else { format!("{machine}/") };
+        let path = place.0.join(format!("a/target/host/{folder}lib{crate_name}.a"));
+        assert_eq!((status, printed(&out)), (0, (path, "!<arch>\na".to_string())), "{said}");
+    }
+    let words = "crunch_abi_c lib --cpu x86-64\ndraw_bench_c lib --cpu x86-64\ncrunch_abi_c lib --target aarch64-unknown-linux-gnu\n";
+    assert_eq!(std::fs::read_to_string(place.0.join("words")).unwrap(), words);
+}
+
+/// What `rt` left before is not taken for one.
+#[test]
+fn of_a_crate_that_is_not_proved_there_is_no_archive() {
+    let no = "rt: the library one did not build, so nothing above it was checked";
+    let place = Place::new("not-proved", &format!("[ ! -f ../../../wrong ] || {{ echo '{no}'; exit 1; }}; {RT}"));
+    assert_eq!(told(place.archive(true).output().unwrap()).0, 0);
+    std::fs::write(place.0.join("wrong"), "").unwrap();
+    std::fs::write(place.0.join("a/crates/one/lib.rt"), "edited").unwrap();
+    let (status, out, said) = told(place.archive(true).output().unwrap());
+    assert!((status, out.as_str(), place.calls()) == (1, "", 1) && said.contains(no), "{said}");
+    assert!(!place.0.join("a/target/host/libcrunch_abi.a").exists());
+}
+
+/// Cargo would build all anew whenever `rt` ran.
+#[test]
+fn what_rt_leaves_is_not_watched() {
+    let place = Place::new("left", RT);
+    build_script(&place);
+    for _ in 0..2 {
+        let (status, out, said) = build(&place, true, &place.0.join("a/rust"), &[]);
+        assert!(status == 0 && out.contains("=../crates/one/lib.rt\n") && !out.contains("crunch_abi_c"), "{out}{said}");
+    }
+    assert!(place.0.join("a/crates/crunch_abi_c/out/libcrunch_abi_c.a").exists());
 }

@@ -1,5 +1,5 @@
-// What C and Rust link: each function of `crunch_abi` under its own name, by the C calling convention and with the same clauses. A library
-// exports nothing itself. `rust/archive` makes the archive.
+// What C and Rust link: each function of `crunch_abi` and of `texels_abi` under its own name, by the C calling convention and with the same
+// clauses. A library exports nothing itself. `rust/archive` makes the archive.
 #![tactic(auto)]
 
 ghost use Rattle.std.specs.Prelude.{◌≡◌};
@@ -17,7 +17,9 @@ ghost use Rattle.crunch_abi.specs.Version.{abi_version};
 ghost use Rattle.dds.specs.Header.{dds_of};
 ghost use Rattle.picture.specs.Answers.{Writes, needed_for};
 ghost use Rattle.picture.specs.Writing.{writing};
+ghost use Rattle.texels.specs.Answers.{Answered};
 
+use bcn_format::Face;
 use crn_format::{Header, Looked};
 use crn_formats::Counts;
 use crunch::OpenedHeader;
@@ -267,4 +269,12 @@ pub extern "C" fn crunch_write_dds_parts<'a>(
         alpha_selectors,
         dst,
     )
+}
+
+// Refusal 2, 18, 28 or 12, with nothing touched; or 0, with four bytes for each pixel, red, green, blue and alpha, in their places.
+#[unsafe(no_mangle)]
+pub extern "C" fn crunch_texels(format: u32, face: Face, blocks: &[u8], rgba: &mut [u8]) -> u32
+    ensures { Answered format face blocks.now rgba.old result rgba.new }
+{
+    texels_abi::crunch_texels(format, face, blocks, rgba)
 }

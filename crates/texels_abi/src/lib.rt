@@ -1,5 +1,5 @@
-// The texels of a face's blocks, for C and Rust: a function by itself, so that a change of it does not prove the other exports anew.
-// `texels_abi_c` exports it, whose object stands in one archive with that of `crunch_abi_c`.
+// The texels of a face's blocks, for C and Rust, which `crunch_abi_c` exports: a library by itself, so that a change of it does not prove
+// those of `crunch_abi` anew.
 #![tactic(auto)]
 
 ghost use Rattle.texels.specs.Answers.{Answered};
