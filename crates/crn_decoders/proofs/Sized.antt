@@ -6,10 +6,12 @@ use native.Mathlib.Omega.{arith}
 use lib.Dec.{leb}
 use Rattle.crn_format.specs.Choice.{pick}
 use Rattle.crn_format.specs.Limits.{max_symbols}
+use Rattle.crn_format.specs.Unpacking.{tables_hold}
+use Rattle.crn_format.specs.declared.Tables.{Tables}
 use Rattle.crn_formats.specs.declared.records.Counts.{Counts}
 use Rattle.crn_decoders.specs.declared.decoders.Sizes.{Sizes}
-use Rattle.crn_decoders.specs.Tables.{Few, Able, all_few, wide_for, sizes_for}
-use Rattle.crn_decoders.proofs.Made.{few-all}
+use Rattle.crn_decoders.specs.Tables.{Few, Able, Long, AllFair, counts_of, all_few, wide_for, sizes_for}
+use Rattle.crn_decoders.proofs.Made.{few-all, all_fair, at_most}
 
 pub record Sized (c : Counts) (s : Sizes) : Type 0 where
   pub some : 0 < s.most
@@ -84,3 +86,9 @@ sized c columns rows e = rw e (sized_by c (all_few c) (leb columns 16 && leb row
 -- there is room for five of them in arrays for five of m words and of n symbols
 pub able_in : {c : Counts} {s : Sizes} (m n : ℕ) → Sized c s → s.lookup_step ≤ m → s.sorted_step ≤ n → Able s (5 * m) (5 * n)
 able_in m n z a b = record { some = z.some; few = z.few; entries = z.entries; lookups = omega arith; sorteds = omega arith }
+
+-- tables that hold are fair by the sizes that their counts have
+pub fair_by : (t : Tables) {s : Sizes} → Long t → tables_hold t ≡ true → Sized (counts_of t) s
+    → AllFair (counts_of t) t.chunk_encoding.lengths t.color_endpoint_delta.lengths t.color_selector_delta.lengths
+    t.alpha_endpoint_delta.lengths t.alpha_selector_delta.lengths s.sorted_step
+fair_by t long holds z = all_fair t _ long holds (z.room (at_most t holds))

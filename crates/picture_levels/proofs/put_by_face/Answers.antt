@@ -1,18 +1,22 @@
-use Prim.Native.Nat.{ℕ, ◌+◌, ◌-◌, ◌≤◌, ◌<◌}
+use Prim.Native.Nat.{ℕ, ◌+◌, ◌-◌, ◌*◌, ◌≤◌, ◌<◌}
+use mathlib.Core.Bool.{true}
 use mathlib.Core.Path.{◌≡◌, refl, sym, ap, ◌∙◌}
 use native.Mathlib.Omega.{arith}
 use native.Mathlib.Nat.{sub-zero}
 use lib.ListN.{length}
 use borrow.Author.Tests.{lt-ltb}
 use borrow.Rule.Slice.PartMut.{put_mid, same_len_mid}
+use Rattle.crn_format.specs.Header.{within_limits}
 use Rattle.crn_format.specs.declared.Header.{Header}
 use Rattle.crn_formats.specs.Lent.{lent_of}
 use Rattle.crn_formats.proofs.Limited.{limited}
 use Rattle.crn_drawing.specs.Levels.{record_with}
 use Rattle.crn_drawing.specs.declared.Unpacked.{Unpacked}
+use Rattle.crn_sizes.specs.Sizes.{level_sizes}
+use Rattle.crn_sizes.specs.declared.LevelSizes.{LevelSizes}
 use Rattle.crn_sizes.proofs.Counts.{most_cutouts, most_symbols, symbols-few}
 use Rattle.crn_levels.proofs.Steps.{rest-whole, put_whole}
-use Rattle.picture.specs.Surfaces.{picture_of, surface, by_face}
+use Rattle.picture.specs.Surfaces.{picture_of, surface, chain, chain_to, by_face}
 use Rattle.picture.specs.Writing.{nothing, put_from}
 use Rattle.picture.proofs.Chains.{chain-none}
 use Rattle.picture.proofs.Bytes.{distance_so, room_for, chain-after}
@@ -27,6 +31,19 @@ record Here (h : Header) (from distance symbols level n : ℕ) : Type 0 where
   room : from + surface (picture_of h) level ≤ n
   few : symbols ≤ most_symbols
   levels : h.levels ≤ 13
+
+here : (h : Header) (head n level : ℕ) {step from : ℕ} {z : LevelSizes} → within_limits h ≡ true → level < h.levels → z ≡ level_sizes h
+    level
+    → step ≡ chain (picture_of h) → head + h.faces * step ≤ n → from ≡ head + chain_to (picture_of h) level
+    → Here h from z.distance z.symbols level n
+here h head n level within number is e room place =
+    record {
+      number = number;
+      bytes = distance_so h within level number is;
+      room = room_for h within head n e room place number;
+      few = symbols-few h level within (lt-ltb _ _ number) is;
+      levels = (limited h within).levels;
+    }
 
 pub loop-level-init : goal.loop-level-init
 loop-level-init c =
@@ -45,51 +62,27 @@ loop-level-init c =
 
 pub slice_bounds-unpack_made-count : goal.slice_bounds-unpack_made-count
 slice_bounds-unpack_made-count c =
-    let here : Here c.args.h c.loop-level.from c.level_sizes-z.result.distance c.level_sizes-z.result.symbols c.loop-level.level
-    (length c.loop-level.dst) = let within = c.requires.tabled.made.within in let number : c.loop-level.level < c.args.h.levels = omega
-    (arith, c.loop-level-test.true) in record {
-      number = number;
-      bytes = distance_so c.args.h within c.loop-level.level number
-          c.level_sizes-z.ensures;
-      room = room_for c.args.h within c.args.head (length c.loop-level.dst) c.requires.step_same
-          (omega (arith, c.requires.room, c.loop-level.invariant.long)) c.loop-level.invariant.place number;
-      few = symbols-few c.args.h
-          c.loop-level.level within (lt-ltb _ _ number) c.level_sizes-z.ensures;
-      levels = (limited c.args.h within).levels;
-    } in
-    omega (arith, here.room)
+    let w = here c.args.h c.args.head (length c.loop-level.dst) c.loop-level.level c.requires.tabled.made.within
+    (omega (arith, c.loop-level-test.true))
+    c.level_sizes-z.ensures c.requires.step_same (omega (arith, c.requires.room, c.loop-level.invariant.long)) c.loop-level.invariant.place
+    in
+    omega (arith, w.room)
 
 pub slice_bounds-unpack_made-start : goal.slice_bounds-unpack_made-start
 slice_bounds-unpack_made-start c =
-    let here : Here c.args.h c.loop-level.from c.level_sizes-z.result.distance c.level_sizes-z.result.symbols c.loop-level.level
-    (length c.loop-level.dst) = let within = c.requires.tabled.made.within in let number : c.loop-level.level < c.args.h.levels = omega
-    (arith, c.loop-level-test.true) in record {
-      number = number;
-      bytes = distance_so c.args.h within c.loop-level.level number
-          c.level_sizes-z.ensures;
-      room = room_for c.args.h within c.args.head (length c.loop-level.dst) c.requires.step_same
-          (omega (arith, c.requires.room, c.loop-level.invariant.long)) c.loop-level.invariant.place number;
-      few = symbols-few c.args.h
-          c.loop-level.level within (lt-ltb _ _ number) c.level_sizes-z.ensures;
-      levels = (limited c.args.h within).levels;
-    } in
-    omega (arith, here.room)
+    let w = here c.args.h c.args.head (length c.loop-level.dst) c.loop-level.level c.requires.tabled.made.within
+    (omega (arith, c.loop-level-test.true))
+    c.level_sizes-z.ensures c.requires.step_same (omega (arith, c.requires.room, c.loop-level.invariant.long)) c.loop-level.invariant.place
+    in
+    omega (arith, w.room)
 
 pub slice_bounds-unpack_made-end : goal.slice_bounds-unpack_made-end
 slice_bounds-unpack_made-end c =
-    let here : Here c.args.h c.loop-level.from c.level_sizes-z.result.distance c.level_sizes-z.result.symbols c.loop-level.level
-    (length c.loop-level.dst) = let within = c.requires.tabled.made.within in let number : c.loop-level.level < c.args.h.levels = omega
-    (arith, c.loop-level-test.true) in record {
-      number = number;
-      bytes = distance_so c.args.h within c.loop-level.level number
-          c.level_sizes-z.ensures;
-      room = room_for c.args.h within c.args.head (length c.loop-level.dst) c.requires.step_same
-          (omega (arith, c.requires.room, c.loop-level.invariant.long)) c.loop-level.invariant.place number;
-      few = symbols-few c.args.h
-          c.loop-level.level within (lt-ltb _ _ number) c.level_sizes-z.ensures;
-      levels = (limited c.args.h within).levels;
-    } in
-    omega (arith, here.room)
+    let w = here c.args.h c.args.head (length c.loop-level.dst) c.loop-level.level c.requires.tabled.made.within
+    (omega (arith, c.loop-level-test.true))
+    c.level_sizes-z.ensures c.requires.step_same (omega (arith, c.requires.room, c.loop-level.invariant.long)) c.loop-level.invariant.place
+    in
+    omega (arith, w.room)
 
 pub unpack_made-u-requires : goal.unpack_made-u-requires
 unpack_made-u-requires c = c.requires.tabled
@@ -104,20 +97,10 @@ pub overflow_add-symbols : goal.overflow_add-symbols
 overflow_add-symbols c =
     let spent : c.unpack_made-u.new.budget ≤ c.level_sizes-z.result.symbols = omega
     (arith, (c.unpack_made-u.ensures c.requires.tabled.of c.requires.tabled.made).spent) in
-    let w : Here c.args.h c.loop-level.from c.level_sizes-z.result.distance c.level_sizes-z.result.symbols c.loop-level.level
-    (length c.loop-level.dst) = let within = c.requires.tabled.made.within in
-    let number : c.loop-level.level < c.args.h.levels = omega (arith, c.loop-level-test.true) in
-    record {
-      number = number;
-      bytes = distance_so c.args.h within c.loop-level.level number c.level_sizes-z.ensures;
-      room =
-          room_for c.args.h within c.args.head (length c.loop-level.dst) c.requires.step_same
-          (omega (arith, c.requires.room, c.loop-level.invariant.long))
-          c.loop-level.invariant.place
-          number;
-      few = symbols-few c.args.h c.loop-level.level within (lt-ltb _ _ number) c.level_sizes-z.ensures;
-      levels = (limited c.args.h within).levels;
-    } in
+    let w = here c.args.h c.args.head (length c.loop-level.dst) c.loop-level.level c.requires.tabled.made.within
+    (omega (arith, c.loop-level-test.true))
+    c.level_sizes-z.ensures c.requires.step_same (omega (arith, c.requires.room, c.loop-level.invariant.long)) c.loop-level.invariant.place
+    in
     omega (arith, spent, c.loop-level.invariant.drawn, w.few, w.levels, w.number)
 
 pub shape_of-dst-in_default : goal.shape_of-dst-in_default
@@ -145,37 +128,19 @@ returns-in_default c =
     c.clear.ensures kept
 
 pub overflow_add-level : goal.overflow_add-level
-overflow_add-level c = let w : Here c.args.h c.loop-level.from c.level_sizes-z.result.distance c.level_sizes-z.result.symbols
-    c.loop-level.level (length c.loop-level.dst) = let within = c.requires.tabled.made.within in
-    let number : c.loop-level.level < c.args.h.levels = omega (arith, c.loop-level-test.true) in
-    record {
-      number = number;
-      bytes = distance_so c.args.h within c.loop-level.level number c.level_sizes-z.ensures;
-      room =
-          room_for c.args.h within c.args.head (length c.loop-level.dst) c.requires.step_same
-          (omega (arith, c.requires.room, c.loop-level.invariant.long))
-          c.loop-level.invariant.place
-          number;
-      few = symbols-few c.args.h c.loop-level.level within (lt-ltb _ _ number) c.level_sizes-z.ensures;
-      levels = (limited c.args.h within).levels;
-    } in omega (arith, w.number, w.levels)
+overflow_add-level c =
+    let w = here c.args.h c.args.head (length c.loop-level.dst) c.loop-level.level c.requires.tabled.made.within
+    (omega (arith, c.loop-level-test.true))
+    c.level_sizes-z.ensures c.requires.step_same (omega (arith, c.requires.room, c.loop-level.invariant.long)) c.loop-level.invariant.place
+    in
+    omega (arith, w.number, w.levels)
 
 pub overflow_add-from : goal.overflow_add-from
 overflow_add-from c =
-    let w : Here c.args.h c.loop-level.from c.level_sizes-z.result.distance c.level_sizes-z.result.symbols c.loop-level.level
-    (length c.loop-level.dst) = let within = c.requires.tabled.made.within in
-    let number : c.loop-level.level < c.args.h.levels = omega (arith, c.loop-level-test.true) in
-    record {
-      number = number;
-      bytes = distance_so c.args.h within c.loop-level.level number c.level_sizes-z.ensures;
-      room =
-          room_for c.args.h within c.args.head (length c.loop-level.dst) c.requires.step_same
-          (omega (arith, c.requires.room, c.loop-level.invariant.long))
-          c.loop-level.invariant.place
-          number;
-      few = symbols-few c.args.h c.loop-level.level within (lt-ltb _ _ number) c.level_sizes-z.ensures;
-      levels = (limited c.args.h within).levels;
-    } in
+    let w = here c.args.h c.args.head (length c.loop-level.dst) c.loop-level.level c.requires.tabled.made.within
+    (omega (arith, c.loop-level-test.true))
+    c.level_sizes-z.ensures c.requires.step_same (omega (arith, c.requires.room, c.loop-level.invariant.long)) c.loop-level.invariant.place
+    in
     omega (
       arith,
       c.well_formed.1.1.1.1.1.1.1.1.1.1.1.0.0,
@@ -186,23 +151,13 @@ overflow_add-from c =
 
 pub overflow_add-cutouts : goal.overflow_add-cutouts
 overflow_add-cutouts c =
-    let few_2 : c.in-Blocks.cut ≤ most_cutouts = few_cuts (record_with c.args.h c.requires.tabled.of) _ _ _ _ _ _ _
+    let few : c.in-Blocks.cut ≤ most_cutouts = few_cuts (record_with c.args.h c.requires.tabled.of) _ _ _ _ _ _ _
     (rw c.in-Blocks.is at (c.unpack_made-u.ensures c.requires.tabled.of c.requires.tabled.made)) in
-    let w : Here c.args.h c.loop-level.from c.level_sizes-z.result.distance c.level_sizes-z.result.symbols c.loop-level.level
-    (length c.loop-level.dst) = let within = c.requires.tabled.made.within in
-    let number : c.loop-level.level < c.args.h.levels = omega (arith, c.loop-level-test.true) in
-    record {
-      number = number;
-      bytes = distance_so c.args.h within c.loop-level.level number c.level_sizes-z.ensures;
-      room =
-          room_for c.args.h within c.args.head (length c.loop-level.dst) c.requires.step_same
-          (omega (arith, c.requires.room, c.loop-level.invariant.long))
-          c.loop-level.invariant.place
-          number;
-      few = symbols-few c.args.h c.loop-level.level within (lt-ltb _ _ number) c.level_sizes-z.ensures;
-      levels = (limited c.args.h within).levels;
-    } in
-    omega (arith, few_2, c.loop-level.invariant.cut, w.number, w.levels)
+    let w = here c.args.h c.args.head (length c.loop-level.dst) c.loop-level.level c.requires.tabled.made.within
+    (omega (arith, c.loop-level-test.true))
+    c.level_sizes-z.ensures c.requires.step_same (omega (arith, c.requires.room, c.loop-level.invariant.long)) c.loop-level.invariant.place
+    in
+    omega (arith, few, c.loop-level.invariant.cut, w.number, w.levels)
 
 pub loop-level-smaller : goal.loop-level-smaller
 loop-level-smaller c = omega (arith, c.loop-level-test.true)
@@ -212,28 +167,18 @@ loop-level-preserved c =
     let kept : length (put_mid c.loop-level.from (length c.loop-level.dst - c.loop-level.from) c.loop-level.dst c.unpack_made-u.new.dst) ≡
     length c.args.dst.now = same_len_mid c.loop-level.from (length c.loop-level.dst - c.loop-level.from) c.loop-level.dst
     c.unpack_made-u.new.dst c.unpack_made-u.auto.dst ∙ c.loop-level.invariant.long in
-    let few_2 : c.in-Blocks.cut ≤ most_cutouts = few_cuts (record_with c.args.h c.requires.tabled.of) _ _ _ _ _ _ _
+    let few : c.in-Blocks.cut ≤ most_cutouts = few_cuts (record_with c.args.h c.requires.tabled.of) _ _ _ _ _ _ _
     (rw c.in-Blocks.is at (c.unpack_made-u.ensures c.requires.tabled.of c.requires.tabled.made)) in
-    let w : Here c.args.h c.loop-level.from c.level_sizes-z.result.distance c.level_sizes-z.result.symbols c.loop-level.level
-    (length c.loop-level.dst) = let within = c.requires.tabled.made.within in
-    let number : c.loop-level.level < c.args.h.levels = omega (arith, c.loop-level-test.true) in
-    record {
-      number = number;
-      bytes = distance_so c.args.h within c.loop-level.level number c.level_sizes-z.ensures;
-      room =
-          room_for c.args.h within c.args.head (length c.loop-level.dst) c.requires.step_same
-          (omega (arith, c.requires.room, c.loop-level.invariant.long))
-          c.loop-level.invariant.place
-          number;
-      few = symbols-few c.args.h c.loop-level.level within (lt-ltb _ _ number) c.level_sizes-z.ensures;
-      levels = (limited c.args.h within).levels;
-    } in
+    let w = here c.args.h c.args.head (length c.loop-level.dst) c.loop-level.level c.requires.tabled.made.within
+    (omega (arith, c.loop-level-test.true))
+    c.level_sizes-z.ensures c.requires.step_same (omega (arith, c.requires.room, c.loop-level.invariant.long)) c.loop-level.invariant.place
+    in
     record {
       few = omega (arith, w.number);
       place = omega (arith, c.loop-level.invariant.place, w.bytes, chain-after (picture_of c.args.h) c.loop-level.level);
       long = kept;
       drawn = omega (arith, c.loop-level.invariant.drawn, w.few);
-      cut = omega (arith, c.loop-level.invariant.cut, few_2);
+      cut = omega (arith, c.loop-level.invariant.cut, few);
       goes = λ t m.
           sym (on (by_face c.args.head (picture_of c.args.h)) (record_with c.args.h t) _ _ c.loop-level.level _ c.loop-level.dst
           (c.args.h.levels - (c.loop-level.level + 1)) (omega (arith, w.number)) c.level_sizes-z.ensures c.loop-level.invariant.place

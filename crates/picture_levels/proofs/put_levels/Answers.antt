@@ -1,8 +1,7 @@
 -- By small or by large tables: of each there is room for five.
 use Rattle.crn_formats.specs.Records.{record_by}
 use Rattle.crn_decoders.specs.Tables.{Long}
-use Rattle.crn_decoders.proofs.Made.{all_fair, at_most}
-use Rattle.crn_decoders.proofs.Sized.{Sized, sized, able_in}
+use Rattle.crn_decoders.proofs.Sized.{Sized, sized, able_in, fair_by}
 use borrow.Author.Rules.{rules}
 use Rattle.picture_levels.proofs.put_levels.Goals as goal
 
@@ -14,7 +13,7 @@ put_in-requires c =
     let long : Long r.tables = search rules in record {
       within_limits = c.requires.within_limits;
       tables_hold = c.requires.tables_hold;
-      all_fair = all_fair r.tables _ long c.requires.tables_hold (z.room (at_most r.tables c.requires.tables_hold));
+      all_fair = fair_by r.tables long c.requires.tables_hold z;
       able = able_in 288
           1024 z c.if-s-le288.true c.if-s-le1024.true;
       chain_same = c.requires.chain_same;
@@ -29,7 +28,7 @@ put_in-requires-then-s-le1024 c =
     let long : Long r.tables = search rules in record {
       within_limits = c.requires.within_limits;
       tables_hold = c.requires.tables_hold;
-      all_fair = all_fair r.tables _ long c.requires.tables_hold (z.room (at_most r.tables c.requires.tables_hold));
+      all_fair = fair_by r.tables long c.requires.tables_hold z;
       able = able_in 2080
           1024 z (z.fewer c.if-s-le1024.true) c.if-s-le1024.true;
       chain_same = c.requires.chain_same;
@@ -45,8 +44,7 @@ put_in-requires-2 c =
     record {
       within_limits = c.requires.within_limits;
       tables_hold = c.requires.tables_hold;
-      all_fair = all_fair r.tables _ long
-          c.requires.tables_hold (z.room (at_most r.tables c.requires.tables_hold));
+      all_fair = fair_by r.tables long c.requires.tables_hold z;
       able = able_in 4128 8192 z z.words z.symbols;
       chain_same
           = c.requires.chain_same;
