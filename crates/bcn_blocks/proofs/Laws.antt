@@ -7,7 +7,8 @@ use Prim.Native.Nat.{ℕ, ◌+◌, ◌*◌, ◌≤◌, ◌<◌}
 use native.Mathlib.Omega.{arith}
 use lib.Dec.{ltb}
 use Rattle.crn_format.specs.Grid.{little}
-use Rattle.crn_format.specs.Header.{DXT1, DXT5, DXT5A, DXN, kind_of, known}
+use Rattle.crn_format.specs.declared.Kind.TheVariants.{DXT1, DXT5, DXT5A, DXN}
+use Rattle.crn_format.specs.Header.{kind_of, known}
 use Rattle.crn_utils.specs.Little.{little_at}
 use Rattle.crn_formats.proofs.ByFormat.{by_format}
 use Rattle.bcn_format.specs.Channels.{byte}
@@ -20,8 +21,7 @@ use Rattle.bcn_colors.specs.Colors.{Palette, covered, bare}
 use Rattle.bcn_levels.specs.Levels.{Levels}
 use Rattle.bcn_rows.specs.Rows.{texel_at, Filled, Addable, Added, chosen}
 use Rattle.bcn_rows.specs.declared.Sixteen.{Sixteen}
-use Rattle.bcn_blocks.specs.declared.halves.ColorHalf.{ColorHalf}
-use Rattle.bcn_blocks.specs.declared.halves.LevelHalf.{LevelHalf}
+use Rattle.bcn_blocks.specs.declared.halves.Half.{Half}
 use Rattle.bcn_blocks.specs.Texels.{Texels, ColorsAt, LevelsAt}
 
 -- ---- numbers of bytes
@@ -60,7 +60,7 @@ module _ (four : Bool) (bs : List ℕ) (at t : ℕ) where
   blues-small : blues < 256
   blues-small = sound_small (shade_sound four blue _ _ _ (inl refl) (omega arith))
 
-  colors-there : (alpha : ℕ → ℕ) {half : ColorHalf} {table : List ℕ} {r : Sixteen} → ColorsAt bs at half
+  colors-there : (alpha : ℕ → ℕ) {half : Half} {table : List ℕ} {r : Sixteen} → ColorsAt bs at half
       → Palette four alpha half.first half.second table → Filled (chosen 2 table half.selectors) r → t < 16
       → texel_at r t ≡ packed reds greens blues (alpha (color_selector bs at t))
   colors-there alpha {half} {table} there palette f h =
@@ -68,7 +68,7 @@ module _ (four : Bool) (bs : List ℕ) (at t : ℕ) where
       (rw (there.selectors, there.first, there.second) at (palette.each (selector 2 half.selectors t) (omega arith)))
 
 -- texel t's level, in its place
-module _ (bs : List ℕ) (at t : ℕ) {half : LevelHalf} (there : LevelsAt bs at half) where
+module _ (bs : List ℕ) (at t : ℕ) {half : Half} (there : LevelsAt bs at half) where
   level-small : byte (level_at bs at t) < 256
   unfolding level_at
   level-small =
@@ -84,7 +84,7 @@ module _ (bs : List ℕ) (at t : ℕ) {half : LevelHalf} (there : LevelsAt bs at
 
 -- ---- each kind
 
-module _ (bs : List ℕ) (at : ℕ) {half : ColorHalf} {table : List ℕ} {r : Sixteen} (there : ColorsAt bs at half) where
+module _ (bs : List ℕ) (at : ℕ) {half : Half} {table : List ℕ} {r : Sixteen} (there : ColorsAt bs at half) where
   pub bc1_there : Palette (ltb half.second half.first) (covered (ltb half.second half.first)) half.first half.second table
       → Filled (chosen 2 table half.selectors) r → Texels bs DXT1 at r
   unfolding texel
@@ -101,7 +101,7 @@ module _ (bs : List ℕ) (at : ℕ) {half : ColorHalf} {table : List ℕ} {r : S
           ∙ packed-bytes _ _ _ _ (reds-small four bs at t) (greens-small four bs at t) (blues-small four bs at t)
           (sound_small (cover_sound four _))
 
-module _ (bs : List ℕ) (at : ℕ) {color : ColorHalf} {level : LevelHalf} {colors alphas : List ℕ} {c l : Sixteen}
+module _ (bs : List ℕ) (at : ℕ) {color : Half} {level : Half} {colors alphas : List ℕ} {c l : Sixteen}
     (c-there : ColorsAt bs (at + 8) color) (l-there : LevelsAt bs at level)
     (palette : Palette true bare color.first color.second colors) (levels : Levels level.first level.second 16777216 0 alphas)
     (c-filled : Filled (chosen 2 colors color.selectors) c) (l-filled : Filled (chosen 3 alphas level.selectors) l) where
@@ -136,7 +136,7 @@ module _ (bs : List ℕ) (at : ℕ) {color : ColorHalf} {level : LevelHalf} {col
             (level-small bs at t l-there);
       }
 
-module _ (bs : List ℕ) (at : ℕ) {half : LevelHalf} {table : List ℕ} {r : Sixteen} (there : LevelsAt bs at half) where
+module _ (bs : List ℕ) (at : ℕ) {half : Half} {table : List ℕ} {r : Sixteen} (there : LevelsAt bs at half) where
   pub bc4_there : Levels half.first half.second 1 4278190080 table → Filled (chosen 3 table half.selectors) r
       → Texels bs DXT5A at r
   unfolding texel byte
@@ -150,7 +150,7 @@ module _ (bs : List ℕ) (at : ℕ) {half : LevelHalf} {table : List ℕ} {r : S
       in_place : (t : ℕ) → byte (level_at bs at t) * 1 + 4278190080 ≡ packed (byte (level_at bs at t)) 0 0 255
       in_place t = omega arith
 
-module _ (bs : List ℕ) (at : ℕ) {red green : LevelHalf} {reds-of greens-of : List ℕ} {v w : Sixteen}
+module _ (bs : List ℕ) (at : ℕ) {red green : Half} {reds-of greens-of : List ℕ} {v w : Sixteen}
     (r-there : LevelsAt bs at red) (g-there : LevelsAt bs (at + 8) green)
     (r-levels : Levels red.first red.second 1 4278190080 reds-of) (g-levels : Levels green.first green.second 256 0 greens-of)
     (r-filled : Filled (chosen 3 reds-of red.selectors) v) (g-filled : Filled (chosen 3 greens-of green.selectors) w) where

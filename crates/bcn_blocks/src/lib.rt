@@ -2,12 +2,14 @@
 #![tactic(auto)]
 
 ghost use Rattle.std.specs.Prelude.{true, ◌≡◌, ◌+◌, ◌*◌, ◌≤◌, length};
-ghost use Rattle.crn_format.specs.Header.{DXT1, DXT5, DXT5A, DXN, kind_of, known, block_bytes};
+ghost use Rattle.crn_format.specs.declared.Kind.TheVariants.{DXT1, DXT5, DXT5A, DXN};
+ghost use Rattle.crn_format.specs.Header.{known, block_bytes};
 ghost use Rattle.bcn_blocks.specs.Texels.{Texels};
 
 use bcn_colors::{four_colors, palette};
 use bcn_levels::levels;
 use bcn_rows::{Sixteen, added_rows, color_rows, level_rows};
+use crn_format::Kind;
 use halves::{color_half, level_half};
 
 mod halves; // the eight bytes of half a block
@@ -62,20 +64,17 @@ fn bc5_at(blocks: &[u8], at: usize) -> Sixteen
     )
 }
 
-// The texels of the n-th block, by the number of a format that is known.
-pub fn block_texels(format: u32, blocks: &[u8], n: usize) -> Sixteen
-    requires format_known { known (kind_of format) ≡ true }
-    requires block_in { block_bytes (kind_of format) * n + block_bytes (kind_of format) ≤ length blocks.now }
-    ensures { Texels blocks.now (kind_of format) (block_bytes (kind_of format) * n) result }
+// The texels of the n-th block, of a kind that is known.
+pub fn block_texels(kind: Kind, blocks: &[u8], n: usize) -> Sixteen
+    requires kind_known { known kind ≡ true }
+    requires block_in { block_bytes kind * n + block_bytes kind ≤ length blocks.now }
+    ensures { Texels blocks.now kind (block_bytes kind * n) result }
 {
-    if format < 2 {
-        return bc1_at(blocks, 8 * n);
+    match kind {
+        Kind::DXT1 => bc1_at(blocks, 8 * n),
+        Kind::DXT5 => bc3_at(blocks, 16 * n),
+        Kind::DXN => bc5_at(blocks, 16 * n),
+        Kind::DXT5A => bc4_at(blocks, 8 * n),
+        Kind::Unknown => unreachable!(),
     }
-    if format < 7 {
-        return bc3_at(blocks, 16 * n);
-    }
-    if format < 9 {
-        return bc5_at(blocks, 16 * n);
-    }
-    bc4_at(blocks, 8 * n)
 }

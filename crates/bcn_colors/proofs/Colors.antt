@@ -11,7 +11,7 @@ use Rattle.crn_format.specs.Choice.{pick}
 use Rattle.bcn_format.specs.Channels.{byte, placed}
 use Rattle.bcn_format.specs.Blocks.{Part, red, green, blue, part_of, shade, cover}
 use Rattle.bcn_format.specs.Packed.{packed}
-use Rattle.bcn_colors.specs.Colors.{Palette, covered, bare, twice, end, lowest, TwoBytes, TwoColors, partway, mix, Share, third, half}
+use Rattle.bcn_colors.specs.Colors.{Palette, covered, bare, Alpha, twice, end, lowest, TwoBytes, TwoColors, top_of, partway, mix}
 use Rattle.bcn_colors.specs.declared.Both.{Both}
 use Rattle.bcn_colors.proofs.Halves.{first, second, kept, scaled}
 
@@ -33,27 +33,32 @@ channel p n k v w place wide twofold small both part made =
 
 -- ---- between them
 
+-- the parts of the nearer end, with the share of one part in 65536
+pub data Share : Bool → ℕ → ℕ → Type 0 where
+  third : Share true 2 21846
+  half : Share false 1 32768
+
 -- a share gives the quotient, rounded down, in 8 bits
-divided : {parts share : ℕ} (a b : ℕ) → Share parts share → a < 256 → b < 256
-    → ((parts * a + b) * share < 256 * 65536) × ((parts * a + b) * share / 65536 ≡ partway (parts + 1) a b)
+divided : {four : Bool} {parts share : ℕ} (a b : ℕ) → Share four parts share → a < 256 → b < 256
+    → ((parts * a + b) * share < 256 * 65536) × ((parts * a + b) * share / 65536 ≡ partway (top_of four) a b)
 divided a b third ha hb = (omega arith, omega arith)
 divided a b half ha hb = (omega arith, omega arith)
 
-pub mixing : {parts share x y r : ℕ} (a b : ℕ) → Share parts share → TwoBytes a b x → TwoBytes b a y
-    → r ≡ lowest 256 ((parts * x + y) * share / 65536) → TwoBytes (partway (parts + 1) a b) (partway (parts + 1) b a) r
-mixing {parts} {share} {x} {y} a b s h back made =
+pub mixing : {four : Bool} {parts share x y r : ℕ} (a b : ℕ) → Share four parts share → TwoBytes a b x → TwoBytes b a y
+    → r ≡ lowest 256 ((parts * x + y) * share / 65536) → TwoBytes (partway (top_of four) a b) (partway (top_of four) b a) r
+mixing {four} {parts} {share} {x} {y} a b s h back made =
     let one = divided a b s h.first h.second in
     let other = divided b a s h.second h.first in
     let sum : parts * x + y ≡ twice (parts * a + b) (parts * b + a) = rw (h.is, back.is) (omega arith) in
     rw (made, sum, ← one.1, ← other.1)
     (scaled 65536 share 256 (parts * a + b) (parts * b + a) (omega arith) refl one.0 other.0)
 
-pub mode : (four : Bool) → Share (pick four 2 1) (pick four 21846 32768)
-mode true = third
-mode false = half
+pub shared : (four : Bool) {parts share : ℕ} → (parts ≡ pick four 2 1) × (share ≡ pick four 21846 32768) → Share four parts share
+shared true e = rw (e.0, e.1) third
+shared false e = rw (e.0, e.1) half
 
 -- nothing of it overflows
-pub within : {parts share a b x y : ℕ} → Share parts share → TwoBytes a b x → TwoBytes b a y
+pub within : {four : Bool} {parts share a b x y : ℕ} → Share four parts share → TwoBytes a b x → TwoBytes b a y
     → (parts * x < 2 ^ 64) × (parts * x + y < 2 ^ 64) × ((parts * x + y) * share < 2 ^ 64)
 within third h back = (omega arith, omega arith, omega arith)
 within half h back = (omega arith, omega arith, omega arith)
@@ -87,7 +92,7 @@ black false a k = refl
 
 -- the colour between two ends that is the nearer to the first
 abbrev inner : Bool → ℕ → ℕ → Part → ℕ
-inner four v w = mix (pick four 2 1 + 1) (end v) (end w)
+inner four v w = mix (top_of four) (end v) (end w)
 
 -- a part of each selector's colour
 shades : (four : Bool) (p : Part) (v w : ℕ) → (end v p ≡ byte (shade four p v w 0)) × (end w p ≡ byte (shade four p v w 1))
@@ -103,29 +108,23 @@ each-of-four P a b c d (suc (suc zero)) h = c
 each-of-four P a b c d (suc (suc (suc zero))) h = d
 each-of-four P a b c d (suc (suc (suc (suc i)))) h = absurd (omega arith)
 
--- an alpha that is the same for each, but for the transparent colour
-pub record Alpha (four : Bool) (k : ℕ) (alpha : ℕ → ℕ) : Type 0 where
-  pub small : k < 256
-  pub most : (i : ℕ) → i < 3 → k ≡ alpha i
-  pub last : pick four k 0 ≡ alpha 3
-
 pub none : Alpha true 0 bare
-none = record { small = omega arith; most = λ i h. refl; last = refl }
+none = record { most = λ i h. refl; last = refl }
 
 pub full : (four : Bool) → Alpha four 255 (covered four)
 unfolding byte cover
-full true = record { small = omega arith; most = λ i h. refl; last = refl }
-full false = record { small = omega arith; most = λ i h. rw (lt-ltb i 3 h); last = refl }
+full true = record { most = λ i h. refl; last = refl }
+full false = record { most = λ i h. rw (lt-ltb i 3 h); last = refl }
 
-pub filled : (four : Bool) (k v w : ℕ) {alpha : ℕ → ℕ} {e m : Both} {c x n r₀ r₁ r₂ r₃ : ℕ} → Alpha four k alpha
+pub filled : (four : Bool) (k v w : ℕ) {alpha : ℕ → ℕ} {e m : Both} {c x n r₀ r₁ r₂ r₃ : ℕ} → k < 256 → Alpha four k alpha
     → TwoColors (end v) (end w) e → TwoColors (inner four v w) (inner four w v) m
     → c ≡ e.red + 256 * e.green + 65536 * e.blue + twice (16777216 * k) (16777216 * k)
     → x ≡ m.red + 256 * m.green + 65536 * m.blue + twice (16777216 * k) (16777216 * k) → n ≡ pick four x (x % 4294967296)
     → r₀ ≡ c % 4294967296 → r₁ ≡ c / 4294967296 → r₂ ≡ n % 4294967296 → r₃ ≡ n / 4294967296
     → Palette four alpha v w (r₀ ∷ r₁ ∷ r₂ ∷ r₃ ∷ [])
-filled four k v w {x = x} alpha ends mixed made between chosen e₀ e₁ e₂ e₃ =
-    let two = joined k alpha.small ends made in
-    let more = joined k alpha.small mixed between in
+filled four k v w {x = x} small alpha ends mixed made between chosen e₀ e₁ e₂ e₃ =
+    let two = joined k small ends made in
+    let more = joined k small mixed between in
     record {
       each = each-of-four _
           (e₀ ∙ two.0 ∙ same (λ p. (shades four p v w).0) (alpha.most 0 (omega arith)))

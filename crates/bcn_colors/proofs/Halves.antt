@@ -3,6 +3,8 @@ use mathlib.Core.Path.{◌≡◌, ap, ap₂}
 use Prim.Native.Nat.{ℕ, zero, suc, ◌+◌, ◌*◌, ◌/◌, ◌%◌, ◌^◌, ◌≤◌, ◌<◌}
 use native.Mathlib.Nat.{add-mul-div_left, add-mul-mod_self_left, div-div-eq-div-mul, div-lt_iff_lt-mul, mul_comm, mod-eq_of_lt}
 use native.Mathlib.Omega.{arith}
+use Rattle.std.specs.Int.{w64, rotate_left}
+use Rattle.std.proofs.lemmas.Nat.{or_shifted}
 use Rattle.bcn_colors.specs.Colors.{twice, lowest, TwoBytes}
 
 pub first : (a b : ℕ) → a < 4294967296 → twice a b % 4294967296 ≡ a
@@ -11,12 +13,11 @@ first a b h = omega arith
 pub second : (a b : ℕ) → a < 4294967296 → twice a b / 4294967296 ≡ b
 second a b h = omega arith
 
--- the halves exchanged fit again
-pub room : (x : ℕ) → x < 2 ^ 64 → x / 4294967296 + x % 4294967296 * 4294967296 < 2 ^ 64
-room x h = joined (x / 4294967296) (x % 4294967296) (omega arith) (omega arith)
-  where
-    joined : (a b : ℕ) → a < 4294967296 → b < 4294967296 → a + b * 4294967296 < 2 ^ 64
-    joined a b ha hb = omega arith
+-- the halves exchanged
+pub exchanged : (x : ℕ) → x < 2 ^ 64 → rotate_left w64 x 32 ≡ twice (x / 4294967296) (x % 4294967296)
+exchanged x h =
+    let upper : (x * 2 ^ 32) % 2 ^ 64 ≡ (x % 2 ^ 32) * 2 ^ 32 = omega arith in
+    rw (upper, or_shifted (x % 2 ^ 32) 32 (x / 2 ^ 32) (omega arith)) (omega arith)
 
 pub turned : {a b x y : ℕ} → TwoBytes a b x → y ≡ twice (x / 4294967296) (x % 4294967296) → TwoBytes b a y
 turned {a} {b} h e =

@@ -1,5 +1,6 @@
 -- A block's four colours as numbers of 32 bits; and two numbers in one, by which the code works on both ends at once.
 use Rattle.std.specs.Prelude.{ℕ, ◌+◌, ◌*◌, ◌/◌, ◌%◌, ◌<◌, Bool, ◌≡◌, List, get_or}
+use Rattle.crn_format.specs.Choice.{pick}
 use Rattle.bcn_format.specs.Channels.{byte, widened, weighed}
 use Rattle.bcn_format.specs.Blocks.{Part, red, green, blue, part_of, shade, cover}
 use Rattle.bcn_format.specs.Packed.{packed}
@@ -17,6 +18,11 @@ covered four i = byte (cover four i)
 -- and none, for an alpha that is added
 abbrev pub bare : ℕ → ℕ
 bare i = 0
+
+-- an alpha that is the same for each, but for the transparent colour
+pub record Alpha (four : Bool) (k : ℕ) (alpha : ℕ → ℕ) : Type 0 where
+  pub most : (i : ℕ) → i < 3 → k ≡ alpha i
+  pub last : pick four k 0 ≡ alpha 3
 
 -- two numbers in one of 64 bits
 abbrev pub twice : ℕ → ℕ → ℕ
@@ -42,14 +48,13 @@ pub record TwoColors (a b : Part → ℕ) (c : Both) : Type 0 where
   pub greens : TwoBytes (a green) (b green) c.green
   pub blues : TwoBytes (a blue) (b blue) c.blue
 
+-- the parts of the way between the ends: three where there are four colours, else two
+abbrev pub top_of : Bool → ℕ
+top_of four = pick four 3 2
+
 -- one of `top` parts of the way from the one to the other, rounded down
 abbrev pub partway : ℕ → ℕ → ℕ → ℕ
 partway top a b = weighed top 1 a b / top
 
 abbrev pub mix : ℕ → (Part → ℕ) → (Part → ℕ) → Part → ℕ
 mix top a b p = partway top (a p) (b p)
-
--- the parts of the nearer end, with the share of one part in 65536
-pub data Share : ℕ → ℕ → Type 0 where
-  third : Share 2 21846
-  half : Share 1 32768

@@ -3,7 +3,9 @@ use Prim.Native.Nat.{ℕ, zero, suc, ◌+◌}
 use mathlib.Core.Path.{◌≡◌, refl}
 use mathlib.Core.List.{List, [], ◌∷◌, ◌++◌, map}
 use lib.ListN.{length}
-use Rattle.crn_format.specs.Header.{Kind, DXT1, DXT5, DXT5A, DXN, kind_of}
+use Rattle.crn_format.specs.declared.Kind.{Kind}
+use Rattle.crn_format.specs.declared.Kind.TheVariants.{DXT1, DXT5, DXT5A, DXN}
+use Rattle.crn_format.specs.Header.{kind_of}
 use Rattle.crn_utils.specs.Little.{little_at}
 use Rattle.bcn_format.specs.Channels.{byte, placed}
 use Rattle.bcn_format.specs.Blocks.{shade, cover, level, level_at, texel}

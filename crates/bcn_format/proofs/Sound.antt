@@ -12,7 +12,8 @@ use lib.Dec.{ltb, eqb}
 use lib.Pow.{pow_pos}
 use lib.ListN.{get_or}
 use Rattle.crn_format.specs.Choice.{pick}
-use Rattle.crn_format.specs.Header.{Kind, DXT1, DXT5, DXT5A, DXN, unknown}
+use Rattle.crn_format.specs.declared.Kind.{Kind}
+use Rattle.crn_format.specs.declared.Kind.TheVariants.{DXT1, DXT5, DXT5A, DXN, Unknown}
 use Rattle.bcn_format.specs.Channels.{Channel, none, exact, byte, placed, ramp, Near}
 use Rattle.bcn_format.specs.Blocks.{Part, red, green, blue, part_of, shade, cover, level, level_at, texel}
 use Rattle.bcn_format.specs.Picture.{Bytes}
@@ -87,7 +88,7 @@ module _ (b : List ℕ) (bytes : Bytes b) (at t : ℕ) where
   texel_sound DXT5 k = colored true _ _ _ (level-at at) k
   texel_sound DXT5A k = each (level-at at) black black white k
   texel_sound DXN k = each (level-at at) (level-at (at + 8)) black white k
-  texel_sound unknown k = black
+  texel_sound Unknown k = black
 
   -- each channel of each texel is less than two steps of 255 away from the exact fraction
   pub texel-near : (kind : Kind) (k : ℕ) → Near (exact (get_or (texel b kind at t) k none)) (byte (get_or (texel b kind at t) k none))

@@ -1,7 +1,8 @@
 -- The sixteen texels of a block, rows downward, each row from left to right.
 use Rattle.std.specs.Prelude.{ℕ, ◌+◌, ◌*◌, ◌/◌, ◌%◌, ◌^◌, Bool, true, false, List, [], ◌∷◌, ◌++◌, get_or, ltb, eqb}
 use Rattle.crn_format.specs.Choice.{pick}
-use Rattle.crn_format.specs.Header.{Kind, DXT1, DXT5, DXT5A, DXN, unknown}
+use Rattle.crn_format.specs.declared.Kind.{Kind}
+use Rattle.crn_format.specs.declared.Kind.TheVariants.{DXT1, DXT5, DXT5A, DXN, Unknown}
 use Rattle.crn_utils.specs.Little.{little_at}
 use Rattle.bcn_format.specs.Channels.{Channel, none, full, ramp}
 
@@ -74,4 +75,4 @@ module _ (b : List ℕ) where
   texel DXT5 at t = colors true (first_word (at + 8)) (second_word (at + 8)) (color_selector (at + 8) t) ++ (level_at at t ∷ [])
   texel DXT5A at t = level_at at t ∷ none ∷ none ∷ full ∷ []
   texel DXN at t = level_at at t ∷ level_at (at + 8) t ∷ none ∷ full ∷ []
-  texel unknown at t = []
+  texel Unknown at t = []

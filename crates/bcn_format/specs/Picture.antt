@@ -3,7 +3,8 @@ use Rattle.std.specs.Prelude.{ℕ, zero, suc, ◌+◌, ◌*◌, ◌-◌, ◌/◌
 use Rattle.std.proofs.lemmas.List.Edits.{sets}
 use Rattle.crn_format.specs.Choice.{pick, both, not}
 use Rattle.crn_format.specs.Grid.{blocks}
-use Rattle.crn_format.specs.Header.{Kind, between, kind_of, known, block_bytes}
+use Rattle.crn_format.specs.declared.Kind.{Kind}
+use Rattle.crn_format.specs.Header.{between, kind_of, known, block_bytes}
 use Rattle.crn_format.specs.Limits.{max_side}
 use Rattle.bcn_format.specs.Channels.{Channel, none, byte}
 use Rattle.bcn_format.specs.Blocks.{texel}

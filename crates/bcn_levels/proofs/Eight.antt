@@ -2,14 +2,16 @@
 -- it, and no level is rounded another way. A level in its place fits 32 bits. Assumes nothing.
 use mathlib.Core.Path.{◌≡◌, refl, ap, ◌∙◌}
 use Prim.Native.Nat.{ℕ, zero, suc, ◌+◌, ◌*◌, ◌-◌, ◌/◌, ◌≤◌, ◌<◌}
-use native.Mathlib.Nat.{add_comm, one-mul, mul-le-mul, mul-le-mul_right}
+use mathlib.Core.Logic.{◌⊎◌, ⊎_elim}
+use native.Mathlib.Nat.{add_comm, mul-le-mul, mul-le-mul_right}
 use native.Mathlib.Omega.{arith}
-use mathlib.Core.List.{List, [], ◌∷◌}
+use mathlib.Core.List.{[], ◌∷◌}
 use lib.ListN.{get_or}
 use borrow.Author.Tests.{lt-ltb, le-ltb}
-use Rattle.bcn_format.specs.Channels.{between, weighed, widened, placed, ramp, byte}
+use Rattle.bcn_format.specs.Channels.{between, weighed, widened, placed, byte}
 use Rattle.bcn_format.specs.Blocks.{level}
-use Rattle.bcn_levels.specs.Levels.{Each, Levels, six_levels}
+use Rattle.bcn_format.proofs.Near.{sound_small}
+use Rattle.bcn_format.proofs.Sound.{level_sound}
 
 -- a table of eight, entry by entry
 pub each-of_eight : (P : ℕ → Type 0) → P 0 → P 1 → P 2 → P 3 → P 4 → P 5 → P 6 → P 7 → (i : ℕ) → i < 8 → P i
@@ -26,32 +28,8 @@ each-of_eight P a b c d e f g h (suc (suc (suc (suc (suc (suc (suc (suc i)))))))
 -- ---- the levels as they are computed
 
 -- so many parts of 65536 above the lower end
-abbrev pub parts : ℕ → ℕ → ℕ
+abbrev parts : ℕ → ℕ → ℕ
 parts low far = (low * 65536 + far) / 65536
-
--- a seventh and a fifth of 65536, rounded up
-abbrev seventh : ℕ
-seventh = 9363
-
-abbrev fifth : ℕ
-fifth = 13108
-
-abbrev eight : ℕ → ℕ → List ℕ
-eight a b =
-    a ∷ b ∷ parts b (6 * step) ∷ parts b (5 * step) ∷ parts b (4 * step) ∷ parts b (3 * step) ∷ parts b (2 * step) ∷ parts b step ∷ []
-  where
-    step : ℕ
-    step = (a - b) * seventh
-
-abbrev six : ℕ → ℕ → List ℕ
-six a b = a ∷ b ∷ parts a step ∷ parts a (2 * step) ∷ parts a (3 * step) ∷ parts a (4 * step) ∷ 0 ∷ 255 ∷ []
-  where
-    step : ℕ
-    step = (b - a) * fifth
-
--- 8 bits are a byte as they are
-as_it_is : (v : ℕ) → v < 256 → widened 8 v ≡ v
-as_it_is v h = omega arith
 
 -- k shares of the way up are k of `top` parts of it, rounded down
 way : (top share : ℕ) → ((low n : ℕ) → n ≤ top * 255 → parts low (n * share) ≡ (top * low + n) / top)
@@ -65,61 +43,55 @@ way top share round low high k h small on =
     let most : high - low ≤ 255 = omega arith in
     rw (far, sum) (round low n (mul-le-mul on most))
 
--- p parts of the way from the first end down to the second, and up to it
-module _ (a b p : ℕ) where
-  down : b ≤ a → a < 256 → p ≤ 7 → parts b ((7 - p) * ((a - b) * seventh)) ≡ byte (between 8 7 p a b)
+pub upward : (top low high k : ℕ) → (top ≡ 5) ⊎ (top ≡ 7) → low ≤ high → high < 256 → k ≤ top
+    → parts low (k * ((high - low) * (65536 / top + 1))) ≡ weighed top k low high / top
+upward top low high k which h small =
+    ⊎_elim (λ e. rw e (way 5 13108 (λ low n l. omega arith) low high k h small))
+    (λ e. rw e (way 7 9363 (λ low n l. omega arith) low high k h small)) which
+
+-- 8 bits are a byte as they are
+as_it_is : (v : ℕ) → v < 256 → widened 8 v ≡ v
+as_it_is v h = omega arith
+
+module _ (a b : ℕ) (ha : a < 256) (hb : b < 256) where
+  -- so much of the way, between the ends as they are
+  part_way : (top parts : ℕ) → weighed top parts a b / top ≡ byte (between 8 top parts a b)
   unfolding byte
-  down h small on =
-      let back : 7 - (7 - p) ≡ p = omega arith in
-      rw (as_it_is a small, as_it_is b (omega arith), add_comm ((7 - p) * a) (p * b))
-      (rw back at (way 7 seventh (λ low n l. omega arith) b a (7 - p) h small (omega arith)))
+  part_way top parts = rw (as_it_is a ha, as_it_is b hb)
 
-  up : a ≤ b → b < 256 → p ≤ 5 → parts a (p * ((b - a) * fifth)) ≡ byte (between 8 5 p a b)
-  unfolding byte
-  up h small on = rw (as_it_is a (omega arith), as_it_is b small) (way 5 fifth (λ low n l. omega arith) a b p h small on)
+  -- or from the second end
+  down : (k : ℕ) → k ≤ 7 → weighed 7 (7 - k) b a / 7 ≡ byte (between 8 7 k a b)
+  down k on =
+      let back : 7 - (7 - k) ≡ k = omega arith in
+      rw (back, add_comm (k * b) ((7 - k) * a)) (part_way 7 k)
 
-sevenths : (a b : ℕ) → b < a → a < 256 → (i : ℕ) → i < 8 → get_or (eight a b) i 0 ≡ byte (ramp 8 7 a b i)
-unfolding byte placed
-sevenths a b h small =
-    let first = as_it_is a small in
-    let second = as_it_is b (omega arith) in
-    let le : b ≤ a = omega arith in
-    each-of_eight (λ i. get_or (eight a b) i 0 ≡ byte (ramp 8 7 a b i)) (omega arith) (omega arith) (down a b 1 le small (omega arith))
-    (down a b 2 le small (omega arith)) (down a b 3 le small (omega arith)) (down a b 4 le small (omega arith))
-    (down a b 5 le small (omega arith)) (rw (one-mul ((a - b) * seventh)) at (down a b 6 le small (omega arith)))
+  pub eight_met : b < a → {p q r s t u : ℕ} → p ≡ weighed 7 6 b a / 7 → q ≡ weighed 7 5 b a / 7 → r ≡ weighed 7 4 b a / 7
+      → s ≡ weighed 7 3 b a / 7 → t ≡ weighed 7 2 b a / 7 → u ≡ weighed 7 1 b a / 7
+      → (i : ℕ) → i < 8 → get_or (a ∷ b ∷ p ∷ q ∷ r ∷ s ∷ t ∷ u ∷ []) i 0 ≡ byte (level a b i)
+  unfolding level placed
+  eight_met h p q r s t u =
+      rw (lt-ltb b a h)
+      (each-of_eight _ (omega (arith, part_way 7 0)) (omega (arith, part_way 7 7)) (p ∙ down 1 (omega arith)) (q ∙ down 2 (omega arith))
+      (r ∙ down 3 (omega arith)) (s ∙ down 4 (omega arith))
+      (t ∙ down 5 (omega arith)) (u ∙ down 6 (omega arith)))
 
-fifths : (a b : ℕ) → a ≤ b → b < 256 → (i : ℕ) → i < 8 → get_or (six a b) i 0 ≡ byte (six_levels a b i)
-unfolding byte placed
-fifths a b h small =
-    let first = as_it_is a (omega arith) in
-    let second = as_it_is b small in
-    each-of_eight (λ i. get_or (six a b) i 0 ≡ byte (six_levels a b i)) (omega arith) (omega arith)
-    (rw (one-mul ((b - a) * fifth)) at (up a b 1 h small (omega arith))) (up a b 2 h small (omega arith))
-    (up a b 3 h small (omega arith)) (up a b 4 h small (omega arith)) refl refl
+  pub six_met : a ≤ b → {p q r s : ℕ} → p ≡ weighed 5 1 a b / 5 → q ≡ weighed 5 2 a b / 5 → r ≡ weighed 5 3 a b / 5
+      → s ≡ weighed 5 4 a b / 5
+      → (i : ℕ) → i < 8 → get_or (a ∷ b ∷ p ∷ q ∷ r ∷ s ∷ 0 ∷ 255 ∷ []) i 0 ≡ byte (level a b i)
+  unfolding level placed byte
+  six_met h p q r s =
+      rw (le-ltb b a h)
+      (each-of_eight _ (omega (arith, part_way 5 0)) (omega (arith, part_way 5 5)) (p ∙ part_way 5 1) (q ∙ part_way 5 2) (r ∙ part_way 5 3)
+      (s ∙ part_way 5 4) refl refl)
 
 -- ---- in their places
+
+-- a level of bytes is one
+pub small : (a b i : ℕ) → a < 256 → b < 256 → i < 8 → byte (level a b i) < 256
+small a b i ha hb h = sound_small (level_sound a b i ha hb h)
 
 -- a byte in its place
 pub placed-small : (v scale more : ℕ) → v < 256 → 255 * scale + more < 4294967296 → v * scale + more < 4294967296
 placed-small v scale more h room =
     let most : v * scale ≤ 255 * scale = mul-le-mul_right scale (omega arith) in
     omega arith
-
--- each of eight numbers is that of the table, so many times, and more
-abbrev Placed : List ℕ → ℕ → ℕ → List ℕ → Type 0
-Placed table scale more r = (i : ℕ) → i < 8 → get_or r i 0 ≡ get_or table i 0 * scale + more
-
-pub eight_met : (a b scale more : ℕ) {r : List ℕ} → b < a → a < 256 → Placed (eight a b) scale more r → Each (ramp 8 7 a b) scale more r
-eight_met a b scale more h small m = record { each = λ i l. m i l ∙ ap (λ v. v * scale + more) (sevenths a b h small i l) }
-
-pub six_met : (a b scale more : ℕ) {r : List ℕ} → a ≤ b → b < 256 → Placed (six a b) scale more r → Each (six_levels a b) scale more r
-six_met a b scale more h small m = record { each = λ i l. m i l ∙ ap (λ v. v * scale + more) (fifths a b h small i l) }
-
--- the mode by the order of the ends
-pub in_order : (a b : ℕ) {scale more : ℕ} {r : List ℕ} → b < a → Each (ramp 8 7 a b) scale more r → Levels a b scale more r
-unfolding level
-in_order a b h e = record { each = λ i l. rw (lt-ltb b a h) (e.each i l) }
-
-pub not_in_order : (a b : ℕ) {scale more : ℕ} {r : List ℕ} → a ≤ b → Each (six_levels a b) scale more r → Levels a b scale more r
-unfolding level
-not_in_order a b h e = record { each = λ i l. rw (le-ltb b a h) (e.each i l) }

@@ -2,56 +2,50 @@
 // many times the level, and more.
 #![tactic(auto)]
 
-ghost use Rattle.std.specs.Prelude.{◌≡◌, ◌+◌, ◌*◌, ◌/◌, ◌≤◌, ◌<◌};
-ghost use Rattle.bcn_format.specs.Channels.{ramp};
-ghost use Rattle.bcn_levels.specs.Levels.{Each, Levels, six_levels};
+ghost use Rattle.std.specs.Prelude.{ℕ, ◌≡◌, ◌⊎◌, ◌+◌, ◌*◌, ◌/◌, ◌≤◌, ◌<◌, get_or};
+ghost use Rattle.bcn_format.specs.Channels.{byte, weighed};
+ghost use Rattle.bcn_format.specs.Blocks.{level};
+ghost use Rattle.bcn_levels.specs.Levels.{Levels};
 
-// So far above the lower end, in parts of 65536, rounded down.
-fn above(low: u32, far: u32, scale: u32, more: u32) -> u32
-    requires sum_fits { low * 65536 + far < 16777216 }
-    requires more_fits { 255 * scale + more < 4294967296 }
-    ensures { result ≡ (low * 65536 + far) / 65536 * scale + more }
+// So many of TOP parts of the way up, rounded down. A seventh is 9363 parts of 65536 and a fifth 13108: near enough, since no level is
+// rounded another way by it.
+fn partway<const TOP: u32>(low: u32, high: u32, parts: u32) -> u32
+    requires top { (TOP ≡ 5) ⊎ (TOP ≡ 7) }
+    requires parts_in { parts ≤ TOP }
+    requires low_in { low ≤ high }
+    requires high_in { high < 256 }
+    ensures { result ≡ weighed TOP parts low high / TOP }
 {
-    (low * 65536 + far) / 65536 * scale + more
+    (low * 65536 + parts * ((high - low) * (65536 / TOP + 1))) / 65536
 }
 
-// Two ends and six between them. A seventh of the way is 9363 parts of 65536: near enough, since no level is rounded another way by it.
-fn eight_levels(a: u32, b: u32, scale: u32, more: u32) -> [u32; 8]
-    requires b_below { b < a }
+// Two ends and six between them, or two ends, four between them, 0 and 255.
+fn bytes(a: u32, b: u32) -> [u32; 8]
     requires a_in { a < 256 }
-    requires sum_fits { 255 * scale + more < 4294967296 }
-    ensures { Each (ramp 8 7 a b) scale more result }
-{
-    let step = (a - b) * 9363;
-    [
-        a * scale + more,
-        b * scale + more,
-        above(b, 6 * step, scale, more),
-        above(b, 5 * step, scale, more),
-        above(b, 4 * step, scale, more),
-        above(b, 3 * step, scale, more),
-        above(b, 2 * step, scale, more),
-        above(b, step, scale, more),
-    ]
-}
-
-// Two ends, four between them, 0 and 255. A fifth of the way is 13108 parts of 65536.
-fn six_levels(a: u32, b: u32, scale: u32, more: u32) -> [u32; 8]
-    requires a_below { a ≤ b }
     requires b_in { b < 256 }
-    requires sum_fits { 255 * scale + more < 4294967296 }
-    ensures { Each (six_levels a b) scale more result }
+    ensures { (i : ℕ) → i < 8 → get_or result i 0 ≡ byte (level a b i) }
 {
-    let step = (b - a) * 13108;
+    if b < a {
+        return [
+            a,
+            b,
+            partway::<7>(b, a, 6),
+            partway::<7>(b, a, 5),
+            partway::<7>(b, a, 4),
+            partway::<7>(b, a, 3),
+            partway::<7>(b, a, 2),
+            partway::<7>(b, a, 1),
+        ];
+    }
     [
-        a * scale + more,
-        b * scale + more,
-        above(a, step, scale, more),
-        above(a, 2 * step, scale, more),
-        above(a, 3 * step, scale, more),
-        above(a, 4 * step, scale, more),
-        more,
-        255 * scale + more,
+        a,
+        b,
+        partway::<5>(a, b, 1),
+        partway::<5>(a, b, 2),
+        partway::<5>(a, b, 3),
+        partway::<5>(a, b, 4),
+        0,
+        255,
     ]
 }
 
@@ -61,8 +55,9 @@ pub fn levels(a: u32, b: u32, scale: u32, more: u32) -> [u32; 8]
     requires sum_fits { 255 * scale + more < 4294967296 }
     ensures { Levels a b scale more result }
 {
-    if b < a {
-        return eight_levels(a, b, scale, more);
+    let mut levels = bytes(a, b);
+    for level in &mut levels {
+        *level = *level * scale + more;
     }
-    six_levels(a, b, scale, more)
+    levels
 }

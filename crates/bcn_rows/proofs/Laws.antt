@@ -61,6 +61,14 @@ module _ (r : Row) where
       let at : get_or (row_bytes r n) (4 * j + i) 0 ≡ get_or all (4 * j + i) 0 = get_or-take (4 * n) all (4 * j + i) 0 (omega arith) in
       at ∙ sym (get_or-take (4 * suc j) all (4 * j + i) 0 (omega arith)) ∙ last_byte j i (omega arith)
 
+  -- the last texel, and what stands for it past the end
+  pub fourth : (i : ℕ) → (i ≡ 0 → ⊥) → (i ≡ 1 → ⊥) → (i ≡ 2 → ⊥) → r.right / 4294967296 ≡ texel_of r i
+  unfolding texel_of
+  fourth zero a b c = absurd (a refl)
+  fourth (suc zero) a b c = absurd (b refl)
+  fourth (suc (suc zero)) a b c = absurd (c refl)
+  fourth (suc (suc (suc i))) a b c = refl
+
   -- ---- a row's first texel put, and the next one where n are
 
   pub first-texel : (d : List ℕ) {h : List ℕ} (at : ℕ) {v : ℕ} → v ≡ texel_of r 0 → h ≡ sets d at (little 4 v) → h ≡ sets d at
@@ -90,14 +98,6 @@ module _ (r : Row) where
       column (suc (suc zero)) h = right.0
       column (suc (suc (suc zero))) h = right.1
       column (suc (suc (suc (suc i)))) h = absurd (omega arith)
-
-  -- chosen by selectors
-  pub chosen-row : (bits : ℕ) (table : List ℕ) (s : ℕ)
-      → (r.left % 4294967296 ≡ get_or table (s % 2 ^ bits) 0) × (r.left / 4294967296 ≡ chosen bits table s 1)
-      → (r.right % 4294967296 ≡ chosen bits table s 2) × (r.right / 4294967296 ≡ chosen bits table s 3) → Holds (chosen bits table s) r
-  chosen-row bits table s left right =
-      let first : r.left % 4294967296 ≡ chosen bits table s 0 = rw (from_first s bits) left.0 in
-      holds (first, left.1) right
 
 -- two texels and two texels
 pub sum-holds : (v w : ℕ) → v % 4294967296 + w % 4294967296 < 4294967296
@@ -132,10 +132,14 @@ module _ (f : ℕ → ℕ) (g : ℕ → ℕ → ℕ) (r : Sixteen) (same : (j i 
 
 -- rows chosen by their parts of the selectors
 pub all-chosen : (bits : ℕ) (table : List ℕ) (s : ℕ) (r : Sixteen) → Holds (chosen bits table s) r.a
-    → Holds (chosen bits table (s / 2 ^ (4 * bits * 1))) r.b → Holds (chosen bits table (s / 2 ^ (4 * bits * 2))) r.c
-    → Holds (chosen bits table (s / 2 ^ (4 * bits * 3))) r.d → Filled (chosen bits table s) r
-all-chosen bits table s r a =
-    filled (chosen bits table s) (λ j. chosen bits table (s / 2 ^ (4 * bits * j))) r same (rw (from_first s (4 * bits)) a)
+    → Holds (chosen bits table (s / 2 ^ (4 * bits))) r.b → Holds (chosen bits table (s / 2 ^ (8 * bits))) r.c
+    → Holds (chosen bits table (s / 2 ^ (12 * bits))) r.d → Filled (chosen bits table s) r
+all-chosen bits table s r a b c d =
+    let one : 4 * bits * 1 ≡ 4 * bits = omega arith in
+    let two : 4 * bits * 2 ≡ 8 * bits = omega arith in
+    let three : 4 * bits * 3 ≡ 12 * bits = omega arith in
+    filled (chosen bits table s) (λ j. chosen bits table (s / 2 ^ (4 * bits * j))) r same (rw (from_first s (4 * bits)) a) (rw one b)
+    (rw two c) (rw three d)
   where
     same : (j i : ℕ) → i < 4 → chosen bits table (s / 2 ^ (4 * bits * j)) i ≡ chosen bits table s (4 * j + i)
     same j i h =

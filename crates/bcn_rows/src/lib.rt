@@ -1,7 +1,7 @@
 // Rows of texels, chosen by selectors and put into a lent buffer.
 #![tactic(auto)]
 
-ghost use Rattle.std.specs.Prelude.{◌≡◌, ℕ, ◌+◌, ◌*◌, ◌/◌, ◌%◌, ◌≤◌, ◌<◌, length};
+ghost use Rattle.std.specs.Prelude.{◌≡◌, ℕ, ◌+◌, ◌*◌, ◌/◌, ◌%◌, ◌^◌, ◌≤◌, ◌<◌, length};
 ghost use Rattle.std.proofs.lemmas.List.Edits.{sets};
 ghost use Rattle.crn_format.specs.Grid.{little};
 ghost use Rattle.bcn_rows.specs.Rows.{texel_of, row_bytes, Holds, Filled, Addable, Added, chosen};
@@ -28,53 +28,62 @@ pub struct Sixteen {
 fn two(a: u32, b: u32) -> u64
     ensures { (result % 4294967296 ≡ a) × (result / 4294967296 ≡ b) }
 {
-    a as u64 + 4294967296 * (b as u64)
+    u64::from(a) + 4294967296 * u64::from(b)
 }
 
-// The texels that four selectors of two bits choose.
-fn color_row(colors: &[u32; 4], s: u32) -> Row
-    ensures { Holds (chosen 2 colors.now s) result }
+// The texel that the selector in column i chooses from a table of COUNT.
+fn texel_chosen<const COUNT: usize, const BITS: u32>(table: &[u32; COUNT], s: u64, i: u32) -> u32
+    requires count { COUNT ≡ 2 ^ BITS }
+    requires few { BITS ≤ 3 }
+    requires i_in { i < 4 }
+    ensures { result ≡ chosen BITS table.now s i }
 {
-    Row {
-        left: two(colors[(s % 4) as usize], colors[(s / 4 % 4) as usize]),
-        right: two(colors[(s / 16 % 4) as usize], colors[(s / 64 % 4) as usize]),
-    }
+    table[((s >> (BITS * i)) % COUNT as u64) as usize]
 }
 
-// The texels that four selectors of three bits choose.
-fn level_row(levels: &[u32; 8], s: u64) -> Row
-    ensures { Holds (chosen 3 levels.now s) result }
+// The texels that four selectors choose.
+fn row_chosen<const COUNT: usize, const BITS: u32>(table: &[u32; COUNT], s: u64) -> Row
+    requires count { COUNT ≡ 2 ^ BITS }
+    requires few { BITS ≤ 3 }
+    ensures { Holds (chosen BITS table.now s) result }
 {
     Row {
-        left: two(levels[(s % 8) as usize], levels[(s / 8 % 8) as usize]),
+        left: two(
+            texel_chosen::<COUNT, BITS>(table, s, 0),
+            texel_chosen::<COUNT, BITS>(table, s, 1),
+        ),
         right: two(
-            levels[(s / 64 % 8) as usize],
-            levels[(s / 512 % 8) as usize],
+            texel_chosen::<COUNT, BITS>(table, s, 2),
+            texel_chosen::<COUNT, BITS>(table, s, 3),
         ),
     }
 }
 
 // The sixteen texels of a block by its selectors.
-pub fn color_rows(colors: &[u32; 4], s: u32) -> Sixteen
-    ensures { Filled (chosen 2 colors.now s) result }
+fn rows_chosen<const COUNT: usize, const BITS: u32>(table: &[u32; COUNT], s: u64) -> Sixteen
+    requires count { COUNT ≡ 2 ^ BITS }
+    requires few { BITS ≤ 3 }
+    ensures { Filled (chosen BITS table.now s) result }
 {
     Sixteen {
-        a: color_row(colors, s),
-        b: color_row(colors, s / 256),
-        c: color_row(colors, s / 65536),
-        d: color_row(colors, s / 16777216),
+        a: row_chosen::<COUNT, BITS>(table, s),
+        b: row_chosen::<COUNT, BITS>(table, s >> (4 * BITS)),
+        c: row_chosen::<COUNT, BITS>(table, s >> (8 * BITS)),
+        d: row_chosen::<COUNT, BITS>(table, s >> (12 * BITS)),
     }
+}
+
+// Of colours, by selectors of two bits; of levels, by selectors of three.
+pub fn color_rows(colors: &[u32; 4], s: u64) -> Sixteen
+    ensures { Filled (chosen 2 colors.now s) result }
+{
+    rows_chosen::<4, 2>(colors, s)
 }
 
 pub fn level_rows(levels: &[u32; 8], s: u64) -> Sixteen
     ensures { Filled (chosen 3 levels.now s) result }
 {
-    Sixteen {
-        a: level_row(levels, s),
-        b: level_row(levels, s / 4096),
-        c: level_row(levels, s / 16777216),
-        d: level_row(levels, s / 68719476736),
-    }
+    rows_chosen::<8, 3>(levels, s)
 }
 
 // Each texel and the other block's in its place: channels of which one or the other is 0.
@@ -105,26 +114,24 @@ fn put_four(dst: &mut [u8], at: usize, v: u32)
     requires { at + 4 ≤ length dst.old }
     ensures { dst.new ≡ sets dst.old at (little 4 v) }
 {
-    dst[at] = (v % 256) as u8;
-    dst[at + 1] = (v / 256 % 256) as u8;
-    dst[at + 2] = (v / 65536 % 256) as u8;
-    dst[at + 3] = (v / 16777216 % 256) as u8;
+    dst[at..at + 4].copy_from_slice(&v.to_le_bytes());
 }
 
-// The one and the other of two texels in one number.
-fn first(v: u64) -> u32
-    ensures { result ≡ v % 4294967296 }
+// The texel in column i.
+fn texel(r: Row, i: usize) -> u32
+    ensures { result ≡ texel_of r i }
 {
-    (v % 4294967296) as u32
+    let texel = match i {
+        0 => r.left % 4294967296,
+        1 => r.left / 4294967296,
+        2 => r.right % 4294967296,
+        _ => r.right / 4294967296,
+    };
+    texel as u32
 }
 
-fn second(v: u64) -> u32
-    ensures { result ≡ v / 4294967296 }
-{
-    (v / 4294967296) as u32
-}
-
-// The first one, two or three texels of a row.
+// The first one, two or three texels of a row. Each by its number: in a loop over them the compiler would keep all of a block's texels at
+// hand, for whole blocks too.
 fn put_part(dst: &mut [u8], at: usize, r: Row, n: usize)
     requires n_in { n < 4 }
     requires room { at + 4 * n ≤ length dst.old }
@@ -133,15 +140,15 @@ fn put_part(dst: &mut [u8], at: usize, r: Row, n: usize)
     if n == 0 {
         return;
     }
-    put_four(dst, at, first(r.left));
+    put_four(dst, at, texel(r, 0));
     if n == 1 {
         return;
     }
-    put_four(dst, at + 4, second(r.left));
+    put_four(dst, at + 4, texel(r, 1));
     if n == 2 {
         return;
     }
-    put_four(dst, at + 8, first(r.right));
+    put_four(dst, at + 8, texel(r, 2));
 }
 
 // The first n texels of a row: two stores, where it is whole.

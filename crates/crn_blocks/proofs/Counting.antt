@@ -2,7 +2,7 @@
 use mathlib.Core.Path.{◌≡◌, ◌∙◌}
 use mathlib.Core.List.{List}
 use Prim.Native.Nat.{ℕ, ◌+◌, ◌*◌, ◌≤◌, ◌<◌}
-use native.Mathlib.Nat.{add-mul, one-mul, zero-mul, add-zero}
+use native.Mathlib.Nat.{zero-mul, add-zero}
 use native.Mathlib.Numerals.{add-one}
 use native.Mathlib.Omega.{arith}
 use borrow.Author.Tests.{lt-ltb, le-ltb}
@@ -15,12 +15,9 @@ use Rattle.crn_format.specs.declared.Grid.{Grid}
 use Rattle.crn_blocks.specs.Sheet.{In, Room, standing}
 use Rattle.crn_blocks.proofs.Places.{lies, Lies}
 
--- a row's first block, and the next one
+-- a row's first block
 pub place-first : (g : Grid) (f y : ℕ) → f * g.distance + y * g.pitch ≡ place_of g f 0 y
 place-first g f y = omega (arith, zero-mul g.bytes)
-
-pub place-next : (g : Grid) (f x y : ℕ) → place_of g f x y + g.bytes ≡ place_of g f (x + 1) y
-place-next g f x y = omega (arith, add-mul x 1 g.bytes, one-mul g.bytes)
 
 -- the number of two bytes, the first the lower
 abbrev pub pair_at : List ℕ → ℕ → ℕ

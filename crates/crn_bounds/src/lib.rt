@@ -4,10 +4,8 @@
 ghost use Rattle.std.specs.Prelude.{◌≡◌};
 ghost use Rattle.crn_format.specs.Header.{entries_fit, within_limits, sizes_in};
 
-use crn_format::{Header, Part};
-use crn_formats::{
-    MAX_ENTRIES, MAX_LEVELS, MAX_SIDE, TOO_LONG, between, has_alpha, has_color, implies, is_known,
-};
+use crn_format::{Header, Kind, Part};
+use crn_formats::{MAX_ENTRIES, MAX_LEVELS, MAX_SIDE, TOO_LONG, between, implies};
 
 // "Palette counts at most 8,192; each palette that the format uses has at least one entry."
 fn entries_fit(uses: bool, palette: Part) -> bool
@@ -20,21 +18,18 @@ fn entries_fit(uses: bool, palette: Part) -> bool
 pub fn within_limits(h: Header) -> bool
     ensures { result ≡ within_limits h }
 {
-    let color = has_color(h.format);
-    let alpha = has_alpha(h.format);
-    let color_endpoints = h.color_endpoints;
-    let color_selectors = h.color_selectors;
-    let alpha_endpoints = h.alpha_endpoints;
-    let alpha_selectors = h.alpha_selectors;
+    let kind = Kind::from(h.format);
+    let color = kind.has_color();
+    let alpha = kind.has_alpha();
     between(1, MAX_SIDE, h.width)
         & between(1, MAX_SIDE, h.height)
-        & between(1, MAX_LEVELS as u32, h.levels)
+        & between(1, u32::from(MAX_LEVELS), h.levels)
         & ((h.faces == 1) | (h.faces == 6))
-        & is_known(h.format)
-        & entries_fit(color, color_endpoints)
-        & entries_fit(color, color_selectors)
-        & entries_fit(alpha, alpha_endpoints)
-        & entries_fit(alpha, alpha_selectors)
+        & kind.is_known()
+        & entries_fit(color, h.color_endpoints)
+        & entries_fit(color, h.color_selectors)
+        & entries_fit(alpha, h.alpha_endpoints)
+        & entries_fit(alpha, h.alpha_selectors)
 }
 
 // "Header size is at least 70 + 4 x levels; neither it nor data size exceeds the file's length", nor that 4,294,967,295.

@@ -6,7 +6,7 @@ use native.Mathlib.Nat.{zero-div, add_assoc, mod-eq_of_lt, lt_of_lt_of_le}
 use native.Mathlib.Decide.{dec_lt}
 use native.Mathlib.Omega.{arith}
 use lib.ListN.{length, get_or, get_or-eq_default}
-use lib.Pow.{pow_mono, high, low, shr-shr}
+use lib.Pow.{pow_mono, high, shr-shr}
 use Rattle.crn_format.specs.Bits.{bit_count, bit_at, spelled}
 use Rattle.crn_format.proofs.Drawing.{field_lt, field_add}
 use Rattle.crn_utils.specs.Little.{little_at}
@@ -48,10 +48,12 @@ field-byte : (s : List ℕ) (q : ℕ) → get_or s q 0 < 256 → spelled s (8 * 
 field-byte s q b = omega (arith, in_byte s q 8 b (omega arith))
 
 -- ---- bytes, the first lowest
-pub low-four : (s : List ℕ) (i : ℕ)
-    → little_at s i 4 ≡ get_or s i 0 + get_or s (i + 1) 0 * 256 + get_or s (i + 2) 0 * 65536 + get_or s (i + 3) 0 * 16777216
+pub low-eight : (s : List ℕ) (i : ℕ)
+    → little_at s i 8 ≡ get_or s i 0 + get_or s (i + 1) 0 * 256 + get_or s (i + 2) 0 * 65536 + get_or s (i + 3) 0 * 16777216
+    + get_or s (i + 4) 0 * 4294967296 + get_or s (i + 5) 0 * 1099511627776 + get_or s (i + 6) 0 * 281474976710656
+    + get_or s (i + 7) 0 * 72057594037927936
 unfolding little_at
-low-four s i = simp add_assoc (omega arith)
+low-eight s i = simp add_assoc (omega arith)
 
 -- where their number is 0, each of them is
 pub low-none : (s : List ℕ) (n i : ℕ) → little_at s i n ≡ 0 → (k : ℕ) → i ≤ k → k < i + n → get_or s k 0 ≡ 0
@@ -64,29 +66,16 @@ low-none s (suc n) i z k h l = go (dec_lt i k) (low-none s n (i + 1) (omega arit
     go (no g) later = let e : k ≡ i = omega arith in rw e (omega arith)
 
 -- ---- bytes, the first highest
--- four bytes in the other order
-abbrev pub exchange : ℕ → ℕ
-exchange x = x % 256 * 16777216 + x / 256 % 256 * 65536 + x / 65536 % 256 * 256 + x / 16777216
-
-exchanged : (a b c d x : ℕ) → a < 256 → b < 256 → c < 256 → d < 256 → x ≡ a + b * 256 + c * 65536 + d * 16777216
-    → exchange x ≡ a * 16777216 + b * 65536 + c * 256 + d
-exchanged a b c d x fa fb fc fd is =
-    let first : x % 256 ≡ a = omega arith in
-    let after_one : x / 256 ≡ (d * 256 + c) * 256 + b = omega arith in
-    let after_two : x / 65536 ≡ d * 256 + c = omega arith in
-    let after-three : x / 16777216 ≡ d = omega arith in
-    rw (first, after_one, after_two, after-three, low (d * 256 + c) 8 fb, low d 8 fc)
-
-pub by_four : (s : List ℕ) (i x : ℕ) → ((k : ℕ) → get_or s k 0 < 256) → x ≡ little_at s i 4 → exchange x ≡ spelled s (8 * i) 32
-by_four s i x b is =
+high-four : (s : List ℕ) (i : ℕ) → ((k : ℕ) → get_or s k 0 < 256)
+    → spelled s (8 * i) 32 ≡ get_or s i 0 * 16777216 + get_or s (i + 1) 0 * 65536 + get_or s (i + 2) 0 * 256 + get_or s (i + 3) 0
+high-four s i b =
     let e : 8 * i + 8 ≡ 8 * (i + 1) = omega arith in
     let f : 8 * i + 16 ≡ 8 * (i + 2) = omega arith in
     let g : 8 * i + 24 ≡ 8 * (i + 3) = omega arith in
     let second = rw e at (field_add s (8 * i) 8 8) in
     let third = rw f at (field_add s (8 * i) 16 8) in
     let fourth = rw g at (field_add s (8 * i) 24 8) in
-    exchanged _ _ _ _ x (b i) (b (i + 1)) (b (i + 2)) (b (i + 3)) (is ∙ low-four s i)
-    ∙ omega (
+    omega (
       arith,
       second,
       third,
@@ -97,8 +86,13 @@ by_four s i x b is =
       field-byte s (i + 3) (b (i + 3)),
     )
 
-pub by_eight : (s : List ℕ) (q : ℕ) → spelled s (8 * q) 64 ≡ spelled s (8 * q) 32 * 4294967296 + spelled s (8 * (q + 4)) 32
-by_eight s q = let e : 8 * q + 32 ≡ 8 * (q + 4) = omega arith in rw e at (field_add s (8 * q) 32 32)
+pub high-eight : (s : List ℕ) (i : ℕ) → ((k : ℕ) → get_or s k 0 < 256)
+    → spelled s (8 * i) 64 ≡ get_or s i 0 * 72057594037927936 + get_or s (i + 1) 0 * 281474976710656 + get_or s (i + 2) 0 * 1099511627776
+    + get_or s (i + 3) 0 * 4294967296 + get_or s (i + 4) 0 * 16777216 + get_or s (i + 5) 0 * 65536 + get_or s (i + 6) 0 * 256
+    + get_or s (i + 7) 0
+high-eight s i b =
+    let e : 8 * i + 32 ≡ 8 * (i + 4) = omega arith in
+    omega (arith, rw e at (field_add s (8 * i) 32 32), high-four s i b, simp add_assoc at (high-four s (i + 4) b))
 
 -- ---- the last bytes, from i to the end, in a word of 64 bits
 pub byte_more : (s : List ℕ) (i k : ℕ) → i ≤ k → get_or s k 0 < 256

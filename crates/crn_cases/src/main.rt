@@ -2,805 +2,290 @@
 // line for each call. docs/CASES.md has the format.
 #![tactic(auto)]
 
-ghost use Rattle.std.specs.Prelude.{◌≡◌, ◌≤◌, IfOk, length};
-
 use crn_edits::edited;
-use crn_format::{Header, Part, Record, Table};
-use crn_formats::Counts;
-use crunch::{Needed, Opened, Unpacked, Written};
+use crn_format::{Fault, Header, Part, Record, Refusal, Table, Tables};
+use crn_formats::{CodeTables, Counts};
+use crunch::Written;
+use std::alloc::{AllocError, Global};
 use std::io::{self, ErrorKind, Read};
 
-// ---- buffers, each with its length in the contract
+// Bytes of a file, at most.
+const MOST_FILE: usize = 262144;
 
-fn file_space() -> [u8; 262144]
-    ensures { 262144 ≡ length result }
-{
-    [0; 262144]
+// Bytes of a head.
+const MOST_HEAD: usize = 4096;
+
+// Bytes of a destination.
+const MOST_DESTINATION: usize = 1048576;
+
+// Words of a lent palette, but for the alpha selectors'.
+const MOST_WORDS: usize = 8192;
+
+// Words of the lent alpha selectors.
+const MOST_ALPHA_SELECTORS: usize = 24576;
+
+// ---- what ends the run early
+
+// Why the cases end before they are all done. What fails is told on standard error, the rest by a line.
+#[derive(Drop)]
+enum Stop {
+    NoCases,
+    ShortInput,
+    TooLarge,
+    Failed(io::Error),
 }
 
-fn head_space() -> [u8; 4096]
-    ensures { 4096 ≡ length result }
-{
-    [0; 4096]
+impl From<io::Error> for Stop {
+    fn from(error: io::Error) -> Stop {
+        Stop::Failed(error)
+    }
 }
 
-fn color_space() -> [u32; 8192]
-    ensures { 8192 ≡ length result }
-{
-    [0; 8192]
-}
-
-fn alpha_space() -> [u16; 8192]
-    ensures { 8192 ≡ length result }
-{
-    [0; 8192]
-}
-
-fn selector_space() -> [u16; 24576]
-    ensures { 24576 ≡ length result }
-{
-    [0; 24576]
-}
-
-fn destination_space() -> [u8; 1048576]
-    ensures { 1048576 ≡ length result }
-{
-    [0; 1048576]
+impl From<AllocError> for Stop {
+    fn from(error: AllocError) -> Stop {
+        Stop::Failed(io::Error::from(error))
+    }
 }
 
 // ---- input
 
-// Whether standard input has enough to fill the buffer.
-fn take(rt: &impl Input, buffer: &mut [u8]) -> io::Result<bool> {
+// The next bytes, as many as the buffer has.
+fn take_into(rt: &impl Input, buffer: &mut [u8]) -> Result<(), Stop> {
     match rt.reader().read_exact(buffer) {
-        Ok(()) => Ok(true),
-        Err(e) => {
-            if e.kind() == ErrorKind::UnexpectedEof {
-                Ok(false)
-            } else {
-                Err(e)
-            }
-        }
+        Ok(()) => Ok(()),
+        Err(error) if error.kind() == ErrorKind::UnexpectedEof => Err(Stop::ShortInput),
+        Err(error) => Err(Stop::Failed(error)),
     }
 }
 
-// A number as the input has it; not whole where the input ends too early.
+// The next N bytes.
+fn take<const N: usize>(rt: &impl Input) -> Result<[u8; N], Stop> {
+    let mut bytes = [0; N];
+    take_into(rt, &mut bytes)?;
+    Ok(bytes)
+}
+
+fn take_byte(rt: &impl Input) -> Result<u8, Stop> {
+    let [byte] = take::<1>(rt)?;
+    Ok(byte)
+}
+
+// The next number of four bytes, the lowest first.
+fn take_u32(rt: &impl Input) -> Result<u32, Stop> {
+    Ok(u32::from_le_bytes(take(rt)?))
+}
+
+// A length that there has to be room for.
+fn take_length(rt: &impl Input, most: usize) -> Result<usize, Stop> {
+    let length = take_u32(rt)? as usize;
+    if most < length {
+        return Err(Stop::TooLarge);
+    }
+    Ok(length)
+}
+
+// A length, and so many bytes.
+fn take_sized(rt: &(impl Input + AllocGlobal), most: usize) -> Result<Vec<u8>, Stop> {
+    let length = take_length(rt, most)?;
+    let mut bytes = vec![in rt.alloc(); 0; length]?;
+    take_into(rt, &mut bytes)?;
+    Ok(bytes)
+}
+
+// A record after its edits.
+fn take_edits(rt: &impl Input, mut record: Record) -> Result<Record, Stop> {
+    for _ in 0..take_byte(rt)? {
+        let field = take_byte(rt)?;
+        let index = take_u32(rt)?;
+        let value = take_u32(rt)?;
+        record = edited(record, u32::from(field), index as usize, value);
+    }
+    Ok(record)
+}
+
+// ---- palettes
+
+// How many words of each palette are lent, and the byte that each of them is at first.
 #[derive(Clone, Copy)]
-struct Number {
-    whole: bool,
-    value: usize,
+struct Lent {
+    color_endpoints: usize,
+    color_selectors: usize,
+    alpha_endpoints: usize,
+    alpha_selectors: usize,
+    fill: u8,
 }
 
-fn take_number(rt: &impl Input) -> io::Result<Number> {
-    let mut bytes = [0u8; 4];
-    let whole = take(rt, &mut bytes)?;
-    Ok(Number {
-        whole: whole,
-        value: crn_utils::little32(&bytes, 0) as usize,
-    })
-}
-
-fn fill32(words: &mut [u32], value: u32) {
-    let mut i: usize = 0;
-    while i < words.len() {
-        words[i] = value;
-        i += 1;
+// The lengths are judged once all of them are there.
+fn take_lent(rt: &impl Input) -> Result<Lent, Stop> {
+    let lent = Lent {
+        color_endpoints: take_u32(rt)? as usize,
+        color_selectors: take_u32(rt)? as usize,
+        alpha_endpoints: take_u32(rt)? as usize,
+        alpha_selectors: take_u32(rt)? as usize,
+        fill: take_byte(rt)?,
+    };
+    if MOST_WORDS < lent.color_endpoints
+        || MOST_WORDS < lent.color_selectors
+        || MOST_WORDS < lent.alpha_endpoints
+        || MOST_ALPHA_SELECTORS < lent.alpha_selectors
+    {
+        return Err(Stop::TooLarge);
     }
+    Ok(lent)
 }
 
-fn fill8(bytes: &mut [u8], value: u8) {
-    let mut i: usize = 0;
-    while i < bytes.len() {
-        bytes[i] = value;
-        i += 1;
+// The four palettes of a file.
+#[derive(Drop)]
+struct Palettes {
+    color_endpoints: Vec<u32>,
+    color_selectors: Vec<u32>,
+    alpha_endpoints: Vec<u16>,
+    alpha_selectors: Vec<u16>,
+}
+
+impl Palettes {
+    // As they are lent, each word filled.
+    fn lent(alloc: Global, lent: Lent) -> Result<Palettes, AllocError> {
+        let color = u32::from(lent.fill);
+        let alpha = u16::from(lent.fill);
+        Ok(Palettes {
+            color_endpoints: vec![in alloc; color; lent.color_endpoints]?,
+            color_selectors: vec![in alloc; color; lent.color_selectors]?,
+            alpha_endpoints: vec![in alloc; alpha; lent.alpha_endpoints]?,
+            alpha_selectors: vec![in alloc; alpha; lent.alpha_selectors]?,
+        })
     }
-}
 
-fn fill16(words: &mut [u16], value: u16) {
-    let mut i: usize = 0;
-    while i < words.len() {
-        words[i] = value;
-        i += 1;
+    fn slices(&self) -> crn_formats::Palettes<'_> {
+        crn_formats::Palettes {
+            color_endpoints: &self.color_endpoints,
+            color_selectors: &self.color_selectors,
+            alpha_endpoints: &self.alpha_endpoints,
+            alpha_selectors: &self.alpha_selectors,
+        }
     }
 }
 
 // ---- hashes
 
-// Four bytes more, the lowest first.
-fn hashed32(h: u64, v: u32) -> u64 {
-    let mut k = fnv::step(h, v % 256);
-    k = fnv::step(k, v / 256 % 256);
-    k = fnv::step(k, v / 65536 % 256);
-    fnv::step(k, v / 16777216)
+// What has an FNV-1a hash: a number by its bytes, the lowest first, and a record by its numbers in their order.
+trait Hashed {
+    // The hash `hash` with this more.
+    fn hashed(&self, hash: u64) -> u64;
 }
 
-fn hash_of32(words: &[u32], h: u64) -> u64 {
-    let mut k = h;
-    let mut i: usize = 0;
-    while i < words.len() {
-        k = hashed32(k, words[i]);
-        i += 1;
+// The hash `hash` with all of these more.
+fn hashed_all<T: Hashed>(items: &[T], hash: u64) -> u64 {
+    let mut after = hash;
+    for item in items {
+        after = item.hashed(after);
     }
-    k
+    after
 }
 
-fn hash_of8(bytes: &[u8], h: u64) -> u64 {
-    let mut k = h;
-    let mut i: usize = 0;
-    while i < bytes.len() {
-        k = fnv::step(k, crn_utils::byte(bytes, i));
-        i += 1;
+// The hash of this alone.
+fn hash_of(value: &impl Hashed) -> u64 {
+    value.hashed(fnv::OFFSET)
+}
+
+impl Hashed for u8 {
+    fn hashed(&self, hash: u64) -> u64 {
+        fnv::step(hash, u32::from(*self))
     }
-    k
 }
 
-fn hash_of16(words: &[u16], h: u64) -> u64 {
-    let mut k = h;
-    let mut i: usize = 0;
-    while i < words.len() {
-        let v = words[i] as u32;
-        k = fnv::step(fnv::step(k, v % 256), v / 256);
-        i += 1;
+impl Hashed for u16 {
+    fn hashed(&self, hash: u64) -> u64 {
+        hashed_all(&self.to_le_bytes(), hash)
     }
-    k
 }
 
-fn hash_of_part(p: Part, h: u64) -> u64 {
-    hashed32(hashed32(hashed32(h, p.offset), p.size), p.count)
-}
-
-fn hash_of_header(r: Header, h: u64) -> u64 {
-    let mut k = hashed32(h, r.header_size);
-    k = hashed32(k, r.header_crc16);
-    k = hashed32(k, r.data_size);
-    k = hashed32(k, r.data_crc16);
-    k = hashed32(k, r.width);
-    k = hashed32(k, r.height);
-    k = hashed32(k, r.levels);
-    k = hashed32(k, r.faces);
-    k = hashed32(k, r.format);
-    k = hashed32(k, r.flags);
-    k = hashed32(k, r.reserved);
-    k = hashed32(k, r.userdata0);
-    k = hashed32(k, r.userdata1);
-    hash_of_parts(r, k)
-}
-
-fn hash_of_parts(r: Header, h: u64) -> u64 {
-    let color_endpoints = r.color_endpoints;
-    let color_selectors = r.color_selectors;
-    let alpha_endpoints = r.alpha_endpoints;
-    let alpha_selectors = r.alpha_selectors;
-    let offsets = r.level_offsets;
-    let mut k = hash_of_part(color_endpoints, h);
-    k = hash_of_part(color_selectors, k);
-    k = hash_of_part(alpha_endpoints, k);
-    k = hash_of_part(alpha_selectors, k);
-    k = hashed32(k, r.tables_size);
-    k = hashed32(k, r.tables_offset);
-    let mut i: usize = 0;
-    while i < 13 {
-        k = hashed32(k, offsets[i]);
-        i += 1;
+impl Hashed for u32 {
+    fn hashed(&self, hash: u64) -> u64 {
+        hashed_all(&self.to_le_bytes(), hash)
     }
-    k
 }
 
-fn hash_of_table(t: Table, h: u64) -> u64 {
-    let lengths = t.lengths;
-    let mut k = hashed32(h, t.count);
-    let mut i: usize = 0;
-    while i < 8192 {
-        k = fnv::step(k, lengths[i] as u32);
-        i += 1;
+impl<T: Hashed> Hashed for Vec<T> {
+    fn hashed(&self, hash: u64) -> u64 {
+        hashed_all(self, hash)
     }
-    k
 }
 
-fn hash_of_record(r: Record) -> u64 {
-    let header = r.header;
-    let tables = r.tables;
-    let chunk = tables.chunk_encoding;
-    let color_endpoint = tables.color_endpoint_delta;
-    let color_selector = tables.color_selector_delta;
-    let alpha_endpoint = tables.alpha_endpoint_delta;
-    let alpha_selector = tables.alpha_selector_delta;
-    let mut k = hash_of_header(header, fnv::OFFSET);
-    k = hash_of_table(chunk, k);
-    k = hash_of_table(color_endpoint, k);
-    k = hash_of_table(color_selector, k);
-    k = hash_of_table(alpha_endpoint, k);
-    hash_of_table(alpha_selector, k)
-}
-
-// ---- lines
-
-fn text(rt: &impl Print, t: &[u8]) -> io::Result<()> {
-    rt.write_all(t)
-}
-
-fn hash_after_space(rt: &impl Print, h: u64) -> io::Result<()> {
-    print!(rt; " {h:016x}")
-}
-
-fn number_after_space(rt: &impl Print, n: u64) -> io::Result<()> {
-    print!(rt; " {n}")
-}
-
-// What opening or loading answered, what the four buffers hold, and the record.
-fn line(
-    rt: &impl Print,
-    word: &[u8],
-    o: Opened,
-    color_endpoints: &[u32],
-    color_selectors: &[u32],
-    alpha_endpoints: &[u16],
-    alpha_selectors: &[u16],
-) -> io::Result<()> {
-    let r = o.file;
-    let mut k = hash_of32(color_endpoints, fnv::OFFSET);
-    k = hash_of32(color_selectors, k);
-    k = hash_of16(alpha_endpoints, k);
-    k = hash_of16(alpha_selectors, k);
-    text(rt, word)?;
-    number_after_space(rt, o.refusal as u64)?;
-    hash_after_space(rt, k)?;
-    hash_after_space(rt, hash_of_record(r))?;
-    text(rt, b"\n")
-}
-
-// What unpacking a level answered, what is left of the budget, and what the destination holds.
-fn level_line(rt: &impl Print, u: Unpacked, left: u64, dst: &[u8]) -> io::Result<()> {
-    text(rt, b"level")?;
-    match u {
-        Unpacked::Blocks { symbols, cutouts } => numbers(rt, 0, symbols, cutouts)?,
-        Unpacked::Refused {
-            number,
-            symbols,
-            at: _,
-        } => numbers(rt, number as u64, symbols, 0)?,
+impl Hashed for Palettes {
+    fn hashed(&self, hash: u64) -> u64 {
+        let mut after = self.color_endpoints.hashed(hash);
+        after = self.color_selectors.hashed(after);
+        after = self.alpha_endpoints.hashed(after);
+        self.alpha_selectors.hashed(after)
     }
-    number_after_space(rt, left)?;
-    hash_after_space(rt, hash_of8(dst, fnv::OFFSET))?;
-    text(rt, b"\n")
 }
 
-fn numbers(rt: &impl Print, a: u64, b: u64, c: u64) -> io::Result<()> {
-    number_after_space(rt, a)?;
-    number_after_space(rt, b)?;
-    number_after_space(rt, c)
-}
-
-// How the writing of a DDS file ended, what the destination holds, and what had to be lent.
-fn dds_line(rt: &impl Print, w: Written, dst: &[u8], n: Needed) -> io::Result<()> {
-    text(rt, b"dds")?;
-    numbers(rt, w.refusal as u64, w.level as u64, w.at as u64)?;
-    numbers(rt, w.bytes as u64, w.symbols, w.cutouts)?;
-    hash_after_space(rt, hash_of8(dst, fnv::OFFSET))?;
-    number_after_space(rt, n.refusal as u64)?;
-    number_after_space(rt, n.bytes as u64)?;
-    text(rt, b"\n")
-}
-
-// ---- cases
-
-fn fill_all(
-    color_endpoints: &mut [u32],
-    color_selectors: &mut [u32],
-    alpha_endpoints: &mut [u16],
-    alpha_selectors: &mut [u16],
-    value: u8,
-) {
-    fill32(color_endpoints, value as u32);
-    fill32(color_selectors, value as u32);
-    fill16(alpha_endpoints, value as u16);
-    fill16(alpha_selectors, value as u16);
-}
-
-// A level unpacked into a destination of just the lent length, each byte filled first.
-fn unpack_filled(
-    rt: &impl Print,
-    file: Record,
-    bytes: &[u8],
-    color_endpoints: &[u32],
-    color_selectors: &[u32],
-    alpha_endpoints: &[u16],
-    alpha_selectors: &[u16],
-    c: Call,
-    value: u8,
-    dst: &mut [u8],
-) -> io::Result<()> {
-    let mut left = c.budget;
-    fill8(dst, value);
-    let u = crunch::unpack_level(
-        file,
-        bytes,
-        color_endpoints,
-        color_selectors,
-        alpha_endpoints,
-        alpha_selectors,
-        c.level,
-        c.pitch,
-        c.distance,
-        &mut left,
-        dst,
-    );
-    level_line(rt, u, left, dst)
-}
-
-// The next level call, or 1 or 2, as for a case.
-fn level_call(
-    rt: &(impl Input + Print),
-    file: Record,
-    bytes: &[u8],
-    color_endpoints: &[u32],
-    color_selectors: &[u32],
-    alpha_endpoints: &[u16],
-    alpha_selectors: &[u16],
-    value: u8,
-    space: &mut [u8],
-) -> io::Result<u32> {
-    let c = take_call(rt)?;
-    let n = c.size;
-    if !c.whole {
-        return Ok(1);
+impl Hashed for Part {
+    fn hashed(&self, hash: u64) -> u64 {
+        hashed_all(&[self.offset, self.size, self.count], hash)
     }
-    if space.len() < n {
-        return Ok(2);
-    }
-    unpack_filled(
-        rt,
-        file,
-        bytes,
-        color_endpoints,
-        color_selectors,
-        alpha_endpoints,
-        alpha_selectors,
-        c,
-        value,
-        &mut space[..n],
-    )?;
-    Ok(0)
 }
 
-// A DDS file written into a destination of just the lent length, each byte filled first.
-fn write_filled(
-    rt: &impl Print,
-    file: Record,
-    bytes: &[u8],
-    color_endpoints: &[u32],
-    color_selectors: &[u32],
-    alpha_endpoints: &[u16],
-    alpha_selectors: &[u16],
-    value: u8,
-    dst: &mut [u8],
-) -> io::Result<()> {
-    let header = file.header;
-    let counts = Counts {
-        chunk: file.tables.chunk_encoding.count,
-        color_ends: file.tables.color_endpoint_delta.count,
-        color_sels: file.tables.color_selector_delta.count,
-        alpha_ends: file.tables.alpha_endpoint_delta.count,
-        alpha_sels: file.tables.alpha_selector_delta.count,
-    };
-    fill8(dst, value);
-    let w = crunch::write_dds(
-        header,
-        counts,
-        &file.tables.chunk_encoding.lengths,
-        &file.tables.color_endpoint_delta.lengths,
-        &file.tables.color_selector_delta.lengths,
-        &file.tables.alpha_endpoint_delta.lengths,
-        &file.tables.alpha_selector_delta.lengths,
-        bytes,
-        color_endpoints,
-        color_selectors,
-        alpha_endpoints,
-        alpha_selectors,
-        dst,
-    );
-    dds_line(rt, w, dst, crunch::dds_bytes(header))
+impl Hashed for Header {
+    fn hashed(&self, hash: u64) -> u64 {
+        let numbers = [
+            self.header_size,
+            self.header_crc16,
+            self.data_size,
+            self.data_crc16,
+            self.width,
+            self.height,
+            self.levels,
+            self.faces,
+            self.format,
+            self.flags,
+            self.reserved,
+            self.userdata0,
+            self.userdata1,
+        ];
+        let palettes = [
+            self.color_endpoints,
+            self.color_selectors,
+            self.alpha_endpoints,
+            self.alpha_selectors,
+        ];
+        let mut after = hashed_all(&numbers, hash);
+        after = hashed_all(&palettes, after);
+        after = hashed_all(&[self.tables_size, self.tables_offset], after);
+        hashed_all(&self.level_offsets, after)
+    }
 }
 
-// The next DDS call, or 1 or 2, as for a case.
-fn dds_call(
-    rt: &(impl Input + Print),
-    file: Record,
-    bytes: &[u8],
-    color_endpoints: &[u32],
-    color_selectors: &[u32],
-    alpha_endpoints: &[u16],
-    alpha_selectors: &[u16],
-    value: u8,
-    space: &mut [u8],
-) -> io::Result<u32> {
-    let t = take_number(rt)?;
-    let n = t.value;
-    if !t.whole {
-        return Ok(1);
+impl Hashed for Table {
+    fn hashed(&self, hash: u64) -> u64 {
+        hashed_all(&self.lengths, self.count.hashed(hash))
     }
-    if space.len() < n {
-        return Ok(2);
-    }
-    write_filled(
-        rt,
-        file,
-        bytes,
-        color_endpoints,
-        color_selectors,
-        alpha_endpoints,
-        alpha_selectors,
-        value,
-        &mut space[..n],
-    )?;
-    Ok(0)
 }
 
-// What the look at a file of `length` bytes that begins with the head answers, and its header.
-fn look_and_say(rt: &impl Print, head: &[u8], length: usize) -> io::Result<Header> {
-    let l = crunch::look_at(head, length);
-    let header = l.header;
-    text(rt, b"look")?;
-    number_after_space(rt, l.refusal as u64)?;
-    hash_after_space(rt, hash_of_header(header, fnv::OFFSET))?;
-    text(rt, b"\n")?;
-    Ok(header)
+impl Hashed for Record {
+    fn hashed(&self, hash: u64) -> u64 {
+        let mut after = self.header.hashed(hash);
+        after = self.tables.chunk_encoding.hashed(after);
+        after = self.tables.color_endpoint_delta.hashed(after);
+        after = self.tables.color_selector_delta.hashed(after);
+        after = self.tables.alpha_endpoint_delta.hashed(after);
+        self.tables.alpha_selector_delta.hashed(after)
+    }
 }
 
-// A file loaded with buffers of just the lent lengths, each word filled first.
-fn load_filled(
-    rt: &impl Print,
-    header: Header,
-    bytes: &[u8],
-    color_endpoints: &mut [u32],
-    color_selectors: &mut [u32],
-    alpha_endpoints: &mut [u16],
-    alpha_selectors: &mut [u16],
-    value: u8,
-) -> io::Result<()> {
-    fill_all(
-        color_endpoints,
-        color_selectors,
-        alpha_endpoints,
-        alpha_selectors,
-        value,
-    );
-    let o = crunch::load(
-        header,
-        bytes,
-        color_endpoints,
-        color_selectors,
-        alpha_endpoints,
-        alpha_selectors,
-    );
-    line(
-        rt,
-        b"load",
-        o,
-        color_endpoints,
-        color_selectors,
-        alpha_endpoints,
-        alpha_selectors,
-    )
+// ---- the calls
+
+// A case: its file, and what is lent for it.
+#[derive(Drop)]
+struct Case {
+    file: Vec<u8>,
+    lent: Lent,
 }
 
-// The next load call, or 1 or 2, as for a case. The edits are a record's; the load takes the header of it.
-fn load_call(
-    rt: &(impl Input + Print),
-    file: Record,
-    bytes: &[u8],
-    color_endpoints: &mut [u32],
-    color_selectors: &mut [u32],
-    alpha_endpoints: &mut [u16],
-    alpha_selectors: &mut [u16],
-    value: u8,
-) -> io::Result<u32> {
-    let mut head = head_space();
-    let t = take_sized(rt, &mut head)?;
-    let n = t.size;
-    if t.ended != 0 {
-        return Ok(t.ended);
-    }
-    let length = take_number(rt)?;
-    if !length.whole {
-        return Ok(1);
-    }
-    let header = look_and_say(rt, &head[..n], length.value)?;
-    let tables = file.tables;
-    let e = take_edits(
-        rt,
-        Record {
-            header: header,
-            tables: tables,
-        },
-    )?;
-    if !e.whole {
-        return Ok(1);
-    }
-    load_filled(
-        rt,
-        e.file.header,
-        bytes,
-        color_endpoints,
-        color_selectors,
-        alpha_endpoints,
-        alpha_selectors,
-        value,
-    )?;
-    Ok(0)
-}
-
-// What the calls of a case are of.
+// A level call as the input has it: `size` is the destination's.
 #[derive(Clone, Copy)]
-enum Kind {
-    Level,
-    Dds,
-    Load,
-}
-
-// The next call.
-fn one_call(
-    rt: &(impl Input + Print),
-    kind: Kind,
-    file: Record,
-    bytes: &[u8],
-    color_endpoints: &mut [u32],
-    color_selectors: &mut [u32],
-    alpha_endpoints: &mut [u16],
-    alpha_selectors: &mut [u16],
-    value: u8,
-    space: &mut [u8],
-) -> io::Result<u32> {
-    match kind {
-        Kind::Level => level_call(
-            rt,
-            file,
-            bytes,
-            color_endpoints,
-            color_selectors,
-            alpha_endpoints,
-            alpha_selectors,
-            value,
-            space,
-        ),
-        Kind::Dds => dds_call(
-            rt,
-            file,
-            bytes,
-            color_endpoints,
-            color_selectors,
-            alpha_endpoints,
-            alpha_selectors,
-            value,
-            space,
-        ),
-        Kind::Load => load_call(
-            rt,
-            file,
-            bytes,
-            color_endpoints,
-            color_selectors,
-            alpha_endpoints,
-            alpha_selectors,
-            value,
-        ),
-    }
-}
-
-// As many calls as the next byte says.
-fn calls(
-    rt: &(impl Input + Print),
-    kind: Kind,
-    file: Record,
-    bytes: &[u8],
-    color_endpoints: &mut [u32],
-    color_selectors: &mut [u32],
-    alpha_endpoints: &mut [u16],
-    alpha_selectors: &mut [u16],
-    value: u8,
-    space: &mut [u8],
-) -> io::Result<u32> {
-    let mut head = [0u8; 1];
-    if !take(rt, &mut head)? {
-        return Ok(1);
-    }
-    let n = crn_utils::byte(&head, 0);
-    for _ in 0..n {
-        let ended = one_call(
-            rt,
-            kind,
-            file,
-            bytes,
-            color_endpoints,
-            color_selectors,
-            alpha_endpoints,
-            alpha_selectors,
-            value,
-            space,
-        )?;
-        if ended != 0 {
-            return Ok(ended);
-        }
-    }
-    Ok(0)
-}
-
-// The edits of the record that opening handed back, then the level calls and the DDS calls.
-fn levels(
-    rt: &(impl Input + Print),
-    o: Opened,
-    bytes: &[u8],
-    color_endpoints: &mut [u32],
-    color_selectors: &mut [u32],
-    alpha_endpoints: &mut [u16],
-    alpha_selectors: &mut [u16],
-    value: u8,
-    space: &mut [u8],
-) -> io::Result<u32> {
-    let e = take_edits(rt, o.file)?;
-    if !e.whole {
-        return Ok(1);
-    }
-    let file = e.file;
-    let ended = calls(
-        rt,
-        Kind::Level,
-        file,
-        bytes,
-        color_endpoints,
-        color_selectors,
-        alpha_endpoints,
-        alpha_selectors,
-        value,
-        space,
-    )?;
-    if ended != 0 {
-        return Ok(ended);
-    }
-    calls(
-        rt,
-        Kind::Dds,
-        file,
-        bytes,
-        color_endpoints,
-        color_selectors,
-        alpha_endpoints,
-        alpha_selectors,
-        value,
-        space,
-    )
-}
-
-// The level calls and the DDS calls, then the load calls.
-fn all_calls(
-    rt: &(impl Input + Print),
-    o: Opened,
-    bytes: &[u8],
-    color_endpoints: &mut [u32],
-    color_selectors: &mut [u32],
-    alpha_endpoints: &mut [u16],
-    alpha_selectors: &mut [u16],
-    value: u8,
-    space: &mut [u8],
-) -> io::Result<u32> {
-    let ended = levels(
-        rt,
-        o,
-        bytes,
-        color_endpoints,
-        color_selectors,
-        alpha_endpoints,
-        alpha_selectors,
-        value,
-        space,
-    )?;
-    if ended != 0 {
-        return Ok(ended);
-    }
-    calls(
-        rt,
-        Kind::Load,
-        o.file,
-        bytes,
-        color_endpoints,
-        color_selectors,
-        alpha_endpoints,
-        alpha_selectors,
-        value,
-        space,
-    )
-}
-
-fn open_and_say(
-    rt: &impl Print,
-    file: &[u8],
-    color_endpoints: &mut [u32],
-    color_selectors: &mut [u32],
-    alpha_endpoints: &mut [u16],
-    alpha_selectors: &mut [u16],
-) -> io::Result<Opened> {
-    let o = crunch::open(
-        file,
-        color_endpoints,
-        color_selectors,
-        alpha_endpoints,
-        alpha_selectors,
-    );
-    line(
-        rt,
-        b"open",
-        o,
-        color_endpoints,
-        color_selectors,
-        alpha_endpoints,
-        alpha_selectors,
-    )?;
-    Ok(o)
-}
-
-// A file opened with buffers of just the lent lengths, each word filled first.
-fn open_filled(
-    rt: &impl Print,
-    file: &[u8],
-    color_endpoints: &mut [u32],
-    color_selectors: &mut [u32],
-    alpha_endpoints: &mut [u16],
-    alpha_selectors: &mut [u16],
-    value: u8,
-) -> io::Result<Opened> {
-    fill_all(
-        color_endpoints,
-        color_selectors,
-        alpha_endpoints,
-        alpha_selectors,
-        value,
-    );
-    open_and_say(
-        rt,
-        file,
-        color_endpoints,
-        color_selectors,
-        alpha_endpoints,
-        alpha_selectors,
-    )
-}
-
-fn open_and_call(
-    rt: &(impl Input + Print),
-    file: &[u8],
-    color_endpoints: &mut [u32],
-    color_selectors: &mut [u32],
-    alpha_endpoints: &mut [u16],
-    alpha_selectors: &mut [u16],
-    value: u8,
-    space: &mut [u8],
-) -> io::Result<u32> {
-    let o = open_filled(
-        rt,
-        file,
-        color_endpoints,
-        color_selectors,
-        alpha_endpoints,
-        alpha_selectors,
-        value,
-    )?;
-    all_calls(
-        rt,
-        o,
-        file,
-        color_endpoints,
-        color_selectors,
-        alpha_endpoints,
-        alpha_selectors,
-        value,
-        space,
-    )
-}
-
-// A level call as the input has it; not whole where the input ends too early.
-#[derive(Clone, Copy)]
-struct Call {
-    whole: bool,
+struct LevelCall {
     level: u32,
     pitch: usize,
     distance: usize,
@@ -808,187 +293,218 @@ struct Call {
     size: usize,
 }
 
-fn take_call(rt: &impl Input) -> io::Result<Call> {
-    let mut bytes = [0u8; 32];
-    let whole = take(rt, &mut bytes)?;
-    Ok(Call {
-        whole: whole,
-        level: crn_utils::little32(&bytes, 0),
-        pitch: crn_utils::little64(&bytes, 4) as usize,
-        distance: crn_utils::little64(&bytes, 12) as usize,
-        budget: crn_utils::little64(&bytes, 20),
-        size: crn_utils::little32(&bytes, 28) as usize,
+fn take_level_call(rt: &impl Input) -> Result<LevelCall, Stop> {
+    Ok(LevelCall {
+        level: take_u32(rt)?,
+        pitch: usize::from_le_bytes(take(rt)?),
+        distance: usize::from_le_bytes(take(rt)?),
+        budget: u64::from_le_bytes(take(rt)?),
+        size: take_length(rt, MOST_DESTINATION)?,
     })
 }
 
-// A record after its edits; not whole where the input ends too early.
-#[derive(Clone, Copy)]
-struct Edited {
-    whole: bool,
-    file: Record,
+// The record of no file, in whose place a refusal stands.
+fn empty_record() -> Record {
+    let none = Table {
+        count: 0,
+        lengths: [0; 8192],
+    };
+    Record {
+        header: Header::default(),
+        tables: Tables {
+            chunk_encoding: none,
+            color_endpoint_delta: none,
+            color_selector_delta: none,
+            alpha_endpoint_delta: none,
+            alpha_selector_delta: none,
+        },
+    }
 }
 
-fn take_edits(rt: &impl Input, r: Record) -> io::Result<Edited> {
-    let mut file = r;
-    let mut head = [0u8; 1];
-    let mut whole = take(rt, &mut head)?;
-    let n = crn_utils::byte(&head, 0);
-    for _ in 0..n {
-        let mut bytes = [0u8; 9];
-        whole = whole & take(rt, &mut bytes)?;
-        file = edited(
-            file,
-            crn_utils::byte(&bytes, 0),
-            crn_utils::little32(&bytes, 1) as usize,
-            crn_utils::little32(&bytes, 5),
+// An answer by its number: 0 with what it has, or the refusal's with what stands in its place.
+fn by_number<T: Drop>(answer: Result<T, Refusal>, refused: T) -> (u32, T) {
+    match answer {
+        Ok(value) => (0, value),
+        Err(refusal) => (refusal.into(), refused),
+    }
+}
+
+// What opening or loading answered, what the palettes hold, and the record, the empty one where it was refused.
+fn say_opened(
+    rt: &impl Print,
+    call: &str,
+    opened: Result<Record, Fault>,
+    palettes: &Palettes,
+) -> io::Result<Record> {
+    let (refusal, file) = match opened {
+        Ok(file) => (0, file),
+        Err(fault) => (fault.refusal.into(), empty_record()),
+    };
+    println!(rt;
+        "{call} {refusal} {:016x} {:016x}",
+        hash_of(palettes),
+        hash_of(&file)
+    )?;
+    Ok(file)
+}
+
+impl Case {
+    // The file opened in one call; the record, the empty one where it is refused.
+    fn open(&self, rt: &impl Print, palettes: &mut Palettes) -> io::Result<Record> {
+        let opened = crunch::open(
+            &self.file,
+            &mut palettes.color_endpoints,
+            &mut palettes.color_selectors,
+            &mut palettes.alpha_endpoints,
+            &mut palettes.alpha_selectors,
         );
+        say_opened(rt, "open", opened, palettes)
     }
-    Ok(Edited {
-        whole: whole,
-        file: file,
-    })
-}
 
-// How many words of each palette are lent, and the fill byte; or 1 or 2, as for a case.
-#[derive(Clone, Copy)]
-struct Lent {
-    ended: u32,
-    color_endpoints: usize,
-    color_selectors: usize,
-    alpha_endpoints: usize,
-    alpha_selectors: usize,
-    value: u8,
-}
+    // The next level call: what it answers, what is left of the budget, and what the destination holds.
+    fn unpack_level(
+        &self,
+        rt: &(impl Input + Print + AllocGlobal),
+        file: &Record,
+        palettes: &Palettes,
+    ) -> Result<(), Stop> {
+        let call = take_level_call(rt)?;
+        let mut left = call.budget;
+        let mut destination = vec![in rt.alloc(); self.lent.fill; call.size]?;
+        let unpacked = crunch::unpack_level(
+            *file,
+            &self.file,
+            &palettes.slices(),
+            call.level,
+            call.pitch,
+            call.distance,
+            &mut left,
+            &mut destination,
+        );
+        let (refusal, symbols, cutouts) = match unpacked {
+            Ok(blocks) => (0, blocks.symbols, blocks.cutouts),
+            Err(refused) => (refused.refusal.into(), refused.symbols, 0),
+        };
+        let hash = hash_of(&destination);
+        println!(rt; "level {refusal} {symbols} {cutouts} {left} {hash:016x}")?;
+        Ok(())
+    }
 
-fn take_lent(rt: &impl Input) -> io::Result<Lent> {
-    let mut bytes = [0u8; 17];
-    let whole = take(rt, &mut bytes)?;
-    let a = crn_utils::little32(&bytes, 0) as usize;
-    let b = crn_utils::little32(&bytes, 4) as usize;
-    let c = crn_utils::little32(&bytes, 8) as usize;
-    let d = crn_utils::little32(&bytes, 12) as usize;
-    Ok(Lent {
-        ended: if whole { 0 } else { 1 },
-        color_endpoints: a,
-        color_selectors: b,
-        alpha_endpoints: c,
-        alpha_selectors: d,
-        value: bytes[16],
-    })
-}
+    // The next DDS call: how the writing ended, what the destination holds, and what had to be lent.
+    fn write_dds(
+        &self,
+        rt: &(impl Input + Print + AllocGlobal),
+        file: &Record,
+        palettes: &Palettes,
+    ) -> Result<(), Stop> {
+        let size = take_length(rt, MOST_DESTINATION)?;
+        let mut destination = vec![in rt.alloc(); self.lent.fill; size]?;
+        let tables = &file.tables;
+        let lent = CodeTables {
+            counts: Counts {
+                chunk: tables.chunk_encoding.count,
+                color_ends: tables.color_endpoint_delta.count,
+                color_sels: tables.color_selector_delta.count,
+                alpha_ends: tables.alpha_endpoint_delta.count,
+                alpha_sels: tables.alpha_selector_delta.count,
+            },
+            chunk: &tables.chunk_encoding.lengths,
+            color_ends: &tables.color_endpoint_delta.lengths,
+            color_sels: &tables.color_selector_delta.lengths,
+            alpha_ends: &tables.alpha_endpoint_delta.lengths,
+            alpha_sels: &tables.alpha_selector_delta.lengths,
+        };
+        let Written {
+            refusal,
+            level,
+            at,
+            bytes,
+            symbols,
+            cutouts,
+        } = crunch::write_dds(
+            file.header,
+            &lent,
+            &self.file,
+            &palettes.slices(),
+            &mut destination,
+        );
+        let hash = hash_of(&destination);
+        let (due, needed) = by_number(crunch::dds_bytes(file.header), 0);
+        println!(rt;
+            "dds {refusal} {level} {at} {bytes} {symbols} {cutouts} {hash:016x} {due} {needed}"
+        )?;
+        Ok(())
+    }
 
-fn with_buffers(
-    rt: &(impl Input + Print),
-    file: &[u8],
-    a: usize,
-    b: usize,
-    c: usize,
-    d: usize,
-    value: u8,
-    space: &mut [u8],
-) -> io::Result<u32>
-    requires { (a ≤ 8192) × (b ≤ 8192) × (c ≤ 8192) × (d ≤ 24576) }
-{
-    let mut color_endpoints = color_space();
-    let mut color_selectors = color_space();
-    let mut alpha_endpoints = alpha_space();
-    let mut alpha_selectors = selector_space();
-    open_and_call(
-        rt,
-        file,
-        &mut color_endpoints[..a],
-        &mut color_selectors[..b],
-        &mut alpha_endpoints[..c],
-        &mut alpha_selectors[..d],
-        value,
-        space,
-    )
-}
+    // The next load call: a look, then the case's file loaded with the header that the look gave and the edits of it. The edits are a
+    // record's; its tables have no part in the load.
+    fn load(&self, rt: &(impl Input + Print + AllocGlobal), file: &Record) -> Result<(), Stop> {
+        let head = take_sized(rt, MOST_HEAD)?;
+        let length = take_u32(rt)? as usize;
+        let (refusal, header) = by_number(crunch::look_at(&head, length), Header::default());
+        println!(rt; "look {refusal} {:016x}", hash_of(&header))?;
+        let edited = take_edits(
+            rt,
+            Record {
+                header,
+                tables: file.tables,
+            },
+        )?;
+        let mut palettes = Palettes::lent(rt.alloc(), self.lent)?;
+        let loaded = crunch::load(
+            edited.header,
+            &self.file,
+            &mut palettes.color_endpoints,
+            &mut palettes.color_selectors,
+            &mut palettes.alpha_endpoints,
+            &mut palettes.alpha_selectors,
+        );
+        say_opened(rt, "load", loaded, &palettes)?;
+        Ok(())
+    }
 
-// 2 where more is lent than there is room for.
-fn with_lent(rt: &(impl Input + Print), file: &[u8], l: Lent, space: &mut [u8]) -> io::Result<u32> {
-    let a = l.color_endpoints;
-    let b = l.color_selectors;
-    let c = l.alpha_endpoints;
-    let d = l.alpha_selectors;
-    if 8192 < a {
-        return Ok(2);
-    }
-    if 8192 < b {
-        return Ok(2);
-    }
-    if 8192 < c {
-        return Ok(2);
-    }
-    if 24576 < d {
-        return Ok(2);
-    }
-    with_buffers(rt, file, a, b, c, d, l.value, space)
-}
-
-// How many bytes were taken into a buffer; or 1 or 2, as for a case.
-#[derive(Clone, Copy)]
-struct Taken {
-    ended: u32,
-    size: usize,
-}
-
-// A length, and so many bytes for the start of the buffer.
-fn take_sized(rt: &impl Input, buffer: &mut [u8]) -> io::Result<Taken>
-    ensures { IfOk result (λ taken. taken.size ≤ length buffer.old) }
-{
-    let t = take_number(rt)?;
-    let n = t.value;
-    if !t.whole {
-        return Ok(Taken { ended: 1, size: 0 });
-    }
-    if buffer.len() < n {
-        return Ok(Taken { ended: 2, size: 0 });
-    }
-    if !take(rt, &mut buffer[..n])? {
-        return Ok(Taken { ended: 1, size: 0 });
-    }
-    Ok(Taken { ended: 0, size: n })
-}
-
-// The next case: 0 where it was done, 1 where the input ends too early, 2 where something is too large.
-fn one(rt: &(impl Input + Print), space: &mut [u8]) -> io::Result<u32> {
-    let mut file = file_space();
-    let t = take_sized(rt, &mut file)?;
-    let size = t.size;
-    if t.ended != 0 {
-        return Ok(t.ended);
-    }
-    let l = take_lent(rt)?;
-    if l.ended != 0 {
-        return Ok(1);
-    }
-    with_lent(rt, &file[..size], l, space)
-}
-
-// Every destination is a part of one space.
-fn cases(rt: &(impl Input + Print), n: u32, space: &mut [u8]) -> io::Result<()> {
-    for _ in 0..n {
-        let ended = one(rt, space)?;
-        if ended == 1 {
-            return text(rt, b"short input\n");
+    // The file opened, and then the calls of each kind, as many as the next byte says: those of levels and of DDS files with the edited
+    // record.
+    fn run(&self, rt: &(impl Input + Print + AllocGlobal)) -> Result<(), Stop> {
+        let mut palettes = Palettes::lent(rt.alloc(), self.lent)?;
+        let opened = self.open(rt, &mut palettes)?;
+        let edited = take_edits(rt, opened)?;
+        for _ in 0..take_byte(rt)? {
+            self.unpack_level(rt, &edited, &palettes)?;
         }
-        if ended == 2 {
-            return text(rt, b"too large\n");
+        for _ in 0..take_byte(rt)? {
+            self.write_dds(rt, &edited, &palettes)?;
         }
+        for _ in 0..take_byte(rt)? {
+            self.load(rt, &opened)?;
+        }
+        Ok(())
+    }
+}
+
+// ---- cases
+
+// The cases in turn, behind the sign and their number.
+fn cases(rt: &(impl Input + Print + AllocGlobal)) -> Result<(), Stop> {
+    let sign: [u8; 4] = take(rt)?;
+    let count = take_u32(rt)?;
+    if sign != *b"CASE" {
+        return Err(Stop::NoCases);
+    }
+    for _ in 0..count {
+        let file = take_sized(rt, MOST_FILE)?;
+        let lent = take_lent(rt)?;
+        Case { file, lent }.run(rt)?;
     }
     Ok(())
 }
 
 fn main(rt: HostRuntime) -> io::Result<()> {
-    let mut head = [0u8; 8];
-    if !take(&rt, &mut head)? {
-        return text(&rt, b"short input\n");
+    match cases(&rt) {
+        Ok(()) => Ok(()),
+        Err(Stop::NoCases) => println!(rt; "no cases"),
+        Err(Stop::ShortInput) => println!(rt; "short input"),
+        Err(Stop::TooLarge) => println!(rt; "too large"),
+        Err(Stop::Failed(error)) => Err(error),
     }
-    // `CASE`
-    if crn_utils::little32(&head, 0) != 1163084099 {
-        return text(&rt, b"no cases\n");
-    }
-    let mut space = destination_space();
-    cases(&rt, crn_utils::little32(&head, 4), &mut space)
 }

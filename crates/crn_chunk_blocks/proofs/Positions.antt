@@ -1,5 +1,5 @@
 -- The bytes of the block at a position of a chunk, by the chunk's encoding and indices.
-use Prim.Native.Nat.{ℕ, zero, suc, ◌+◌, ◌*◌, ◌/◌, ◌%◌, ◌<◌, ◌≤◌}
+use Prim.Native.Nat.{ℕ, zero, suc, ◌+◌, ◌*◌, ◌/◌, ◌%◌, ◌<◌}
 use mathlib.Core.Path.{◌≡◌, refl, sym, ap, ◌∙◌}
 use mathlib.Core.Bool.{Bool, true, false, false≢true, ◌&&◌, ◌||◌}
 use mathlib.Core.Logic.{◌⊎◌, inl, inr, ⊎_elim}
@@ -87,9 +87,6 @@ by_byte p ps e out byte q he hq tiles = ap (λ (tile : ℕ). block_with p ps out
 -- its halves, as they are put
 module _ (p : Palettes) (ps : Planes) (out : List ℕ) (tile q lo : ℕ)
     (first : Half (shade_of p ps.first) (get_or out tile 0) (get_or out (8 + q) 0) lo) where
-  pub of_one : ps.two ≡ false → little 8 lo ≡ block_with p ps out tile q
-  of_one single = rw single (first ∙ sym (append-nil (half (shade_of p ps.first) (get_or out tile 0) (get_or out (8 + q) 0))))
-
   pub of_two : (hi : ℕ) → ps.two ≡ true → Half (shade_of p ps.second) (get_or out (4 + tile) 0) (get_or out (12 + q) 0) hi → little 8 lo ++
       little 8 hi ≡ block_with p ps out tile q
   of_two hi double second =
@@ -118,14 +115,6 @@ block-sized p ps e out t =
     let a = shade_of p ps.first in
     let b = shade_of p ps.second in
     block-long (row ps.two a b) (chunk_of ps.two e out) (t % 4) (shaped ps.two a b e out) (omega arith) ∙ eight_each ps.two a b
-
--- so that there is room for one, and for the second where there is one
-pub eight_fit : (two : Bool) (at n : ℕ) → at + pick two 16 8 ≤ n → at + 8 ≤ n
-eight_fit true at n h = omega arith
-eight_fit false at n h = h
-
-pub sixteen_fit : (two : Bool) (at n : ℕ) → two ≡ true → at + pick two 16 8 ≤ n → at + 16 ≤ n
-sixteen_fit two at n is h = rw is at h
 
 -- ---- which positions lie inside the grid, by the code's test
 
@@ -181,7 +170,3 @@ inside_so right bottom (suc (suc (suc (suc q)))) h e = absurd (omega arith)
 pub place_by : (g : Grid) (f cx cy q : ℕ) → f * g.distance + 2 * cy * g.pitch + 2 * cx * g.bytes + q / 2 * g.pitch + q % 2 * g.bytes
     ≡ place_of g f (2 * cx + q % 2) (2 * cy + q / 2)
 place_by g f cx cy q = omega (arith, add-mul (2 * cy) (q / 2) g.pitch, add-mul (2 * cx) (q % 2) g.bytes)
-
--- the chunk's first block is one of the grid
-pub first_in : (g : Grid) (f cx cy : ℕ) → Covered g f cx cy → In g f (2 * cx) (2 * cy)
-first_in g f cx cy at = record { face = at.face; column = omega (arith, at.column); row = omega (arith, at.row) }

@@ -1,5 +1,6 @@
 -- A chunk that is read has its endpoint indices in range, and its selector indices at the positions inside the grid: so the palettes have the entries of its blocks.
 use Prim.Native.Nat.{ℕ, zero, suc, ◌+◌, ◌<◌}
+use Rattle.std.specs.Prelude.{Ok}
 use mathlib.Core.Path.{◌≡◌, refl, sym, ap, ◌∙◌, subst}
 use mathlib.Core.Bool.{Bool, true, false, false≢true}
 use mathlib.Core.List.{List, [], ◌∷◌, ◌++◌, append-nil, append_assoc}
@@ -16,12 +17,10 @@ use Rattle.crn_format.specs.Grid.{Shade, color, alpha}
 use Rattle.crn_format.specs.Opening.{Palettes}
 use Rattle.crn_format.proofs.Answers.{All, run-all, all-next, Any, all_any, all-pick, all-answer}
 use Rattle.crn_chunks.specs.Meaning.{source, spending, row, plane_of, planes, Coded, Served, running_of, chunk_of}
-use Rattle.crn_chunks.specs.Reads.{Reads, chunked, inside_of}
+use Rattle.crn_chunks.specs.Reads.{Reads, Answer, chunked, inside_of}
 use Rattle.crn_chunks.specs.declared.Planes.{Planes}
 use Rattle.crn_chunks.specs.declared.Carried.{Carried}
 use Rattle.crn_chunks.specs.declared.Stream.{Stream}
-use Rattle.crn_chunks.specs.declared.Chunked.{Chunked}
-use Rattle.crn_chunks.specs.declared.Chunked.TheVariants.{Read}
 use Rattle.crn_blocks.specs.Halves.{Has, Reach}
 use Rattle.crn_chunk_blocks.specs.Blocks.{shade_of, Reaches, AllFilled}
 use Rattle.crn_chunk_blocks.proofs.Positions.{tile_below}
@@ -173,9 +172,9 @@ has : (x : Shade) {m n : ℕ} (e s : ℕ) → Reach x m n → e < m → s < n �
 has (color ends sels) e s reach he hs = (omega arith, omega arith)
 has (alpha ends sels) e s reach he hs = (omega arith, omega arith)
 
-module _ {lookup sorted seg out : List ℕ} {ps : Planes} {right bottom : Bool} {r : Carried} {s : Stream} {a : Chunked}
+module _ {lookup sorted seg out : List ℕ} {ps : Planes} {right bottom : Bool} {r : Carried} {s : Stream} {a : Answer}
     (reads : Reads lookup sorted seg ps right bottom r s out a)
-    {e : ℕ} {n : Carried} {t : Stream} (is : a ≡ Read e n t) where
+    {e : ℕ} {n : Carried} {t : Stream} (is : a ≡ Ok (e, n, t)) where
   -- by every code that the tables decode
   pub read_so : (cs : ℕ → List ℕ) → Coded cs ps lookup sorted
       → run (source seg) (chunk (cs 0) (planes cs ps) (inside_of right bottom) (running_of ps.two r)) (spending s) ≡ got

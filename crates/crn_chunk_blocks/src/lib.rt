@@ -5,7 +5,7 @@ ghost use Rattle.std.specs.Prelude.{◌≡◌, ◌+◌, ◌*◌, ◌<◌, ◌≤
 ghost use Rattle.std.proofs.lemmas.List.Edits.{sets};
 ghost use Rattle.crn_format.specs.Choice.{pick};
 ghost use Rattle.crn_consts.specs.Tiles.{tile_in};
-ghost use Rattle.crn_formats.specs.Lent.{lent_of};
+ghost use Rattle.crn_formats.specs.Lent.{lent};
 ghost use Rattle.crn_blocks.specs.Sheet.{Covered, Painted, chunk_number};
 ghost use Rattle.crn_blocks.specs.Halves.{Half, Has};
 ghost use Rattle.crn_chunk_blocks.specs.Blocks.{shade_of, block_with, block_in, Placeable, Filled, AllFilled};
@@ -13,35 +13,25 @@ ghost use Rattle.crn_chunk_blocks.specs.Blocks.{shade_of, block_with, block_in, 
 use crn_blocks::{alpha_half, color_half, put_eight};
 use crn_chunks::{Planes, Side};
 use crn_format::Grid;
+use crn_formats::Palettes;
 
 // A plane's eight bytes of a block.
-fn plane_half(
-    cends: &[u32],
-    csels: &[u32],
-    aends: &[u16],
-    asels: &[u16],
-    p: Side,
-    e: u64,
-    s: u64,
-) -> u64
-    requires { Has (shade_of (lent_of cends.now csels.now aends.now asels.now) p) e s }
-    ensures { Half (shade_of (lent_of cends.now csels.now aends.now asels.now) p) e s result }
+fn plane_half(palettes: &Palettes, p: Side, e: u64, s: u64) -> u64
+    requires { Has (shade_of (lent palettes.now) p) e s }
+    ensures { Half (shade_of (lent palettes.now) p) e s result }
 {
-    let of_alpha = p.alpha;
-    if of_alpha {
-        return alpha_half(aends, asels, e, s);
+    if p.alpha {
+        alpha_half(palettes.alpha_endpoints, palettes.alpha_selectors, e, s)
+    } else {
+        color_half(palettes.color_endpoints, palettes.color_selectors, e, s)
     }
-    color_half(cends, csels, e, s)
 }
 
 // The block at a position: 0 left-top, 1 right-top, 2 left-bottom, 3 right-bottom. The byte has the positions' tiles.
 fn block(
     dst: &mut [u8],
     out: &[u64; 16],
-    cends: &[u32],
-    csels: &[u32],
-    aends: &[u16],
-    asels: &[u16],
+    palettes: &Palettes,
     ps: Planes,
     tiles: usize,
     at: usize,
@@ -49,25 +39,14 @@ fn block(
 )
     requires q_in { q < 4 }
     requires room { at + pick ps.two 16 8 ≤ length dst.old }
-    requires filled { Filled (lent_of cends.now csels.now aends.now asels.now) ps out.now (tile_in tiles q) q }
-    ensures { dst.new ≡ sets dst.old at (block_with (lent_of cends.now csels.now aends.now asels.now) ps out.now (tile_in tiles q) q) }
+    requires filled { Filled (lent palettes.now) ps out.now (tile_in tiles q) q }
+    ensures { dst.new ≡ sets dst.old at (block_with (lent palettes.now) ps out.now (tile_in tiles q) q) }
 {
     let tile = (tiles >> (2 * q)) % 4;
-    let first = ps.first;
-    let lo = plane_half(cends, csels, aends, asels, first, out[tile], out[8 + q]);
+    let lo = plane_half(palettes, ps.first, out[tile], out[8 + q]);
     put_eight(dst, at, lo);
-    let two = ps.two;
-    if two {
-        let second = ps.second;
-        let hi = plane_half(
-            cends,
-            csels,
-            aends,
-            asels,
-            second,
-            out[4 + tile],
-            out[12 + q],
-        );
+    if ps.two {
+        let hi = plane_half(palettes, ps.second, out[4 + tile], out[12 + q]);
         put_eight(dst, at + 8, hi);
     }
 }
@@ -76,10 +55,7 @@ fn block(
 pub fn blocks(
     dst: &mut [u8],
     out: &[u64; 16],
-    cends: &[u32],
-    csels: &[u32],
-    aends: &[u16],
-    asels: &[u16],
+    palettes: &Palettes,
     ps: Planes,
     g: Grid,
     e: u32,
@@ -92,17 +68,17 @@ pub fn blocks(
     requires placeable { Placeable ps g e (length dst.old) }
     requires covered { Covered g face cx cy }
     requires sides { (right ≡ ltb (2 * cx + 1) g.columns) × (bottom ≡ ltb (2 * cy + 1) g.rows) }
-    requires all_filled { AllFilled (lent_of cends.now csels.now aends.now asels.now) ps e out.now right bottom }
-    ensures { Painted g (block_in (lent_of cends.now csels.now aends.now asels.now) ps e out.now) (4 * chunk_number g face cx cy) (4 * chunk_number g face cx cy + 4) dst.old dst.new }
+    requires all_filled { AllFilled (lent palettes.now) ps e out.now right bottom }
+    ensures { Painted g (block_in (lent palettes.now) ps e out.now)
+        (4 * chunk_number g face cx cy) (4 * chunk_number g face cx cy + 4)
+        dst.old dst.new }
 {
     let tiles = crn_consts::tiles(e) as usize;
     let base = face * g.distance + 2 * cy * g.pitch + 2 * cx * g.bytes;
-    let mut q = 0;
-    while q < 4 {
+    for q in 0..4 {
         if (right | (q % 2 == 0)) & (bottom | (q < 2)) {
             let at = base + q / 2 * g.pitch + q % 2 * g.bytes;
-            block(dst, out, cends, csels, aends, asels, ps, tiles, at, q);
+            block(dst, out, palettes, ps, tiles, at, q);
         }
-        q += 1;
     }
 }

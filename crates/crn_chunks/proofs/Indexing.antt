@@ -1,11 +1,12 @@
 -- The next index of a palette.
 use Prim.Native.Nat.{ℕ, ◌+◌, ◌-◌, ◌≤◌, ◌<◌}
-use mathlib.Core.Bool.{Bool, true, false}
+use mathlib.Core.Bool.{Bool, true, false, ◌&&◌}
 use mathlib.Core.List.{List}
 use mathlib.Core.Path.{◌≡◌, refl, ◌∙◌}
 use native.Mathlib.Omega.{arith}
-use lib.Dec.{ltb}
-use borrow.Author.Tests.{lt-ltb, le-ltb}
+use lib.Dec.{leb, ltb}
+use borrow.Author.Tests.{lt-ltb}
+use Rattle.std.proofs.lemmas.Bool.Decides.{nat_tests}
 use Rattle.crn_format.specs.Choice.{pick, not, either}
 use Rattle.crn_format.specs.Reading.{Reading, answer, refuse, symbol, got, refused, Source, run}
 use Rattle.crn_format.specs.Level.{Plane, limited, stepped, endpoint_index, selector_index}
@@ -14,6 +15,11 @@ use Rattle.crn_chunks.specs.Parts.{index_of, farthest, reach}
 
 abbrev index_then : ℕ → Bool → ℕ → ℕ → Reading ℕ
 index_then n inside i d = pick (either (ltb (stepped n i d) n) (not inside)) (answer (stepped n i d)) (refuse 14)
+
+-- the test in the code
+looked_at : (inside : Bool) (n j : ℕ) → either (ltb j n) (not inside) ≡ not (inside && leb n j)
+looked_at true n j = grind (arith, nat_tests)
+looked_at false n j = grind (arith, nat_tests)
 
 module _ {S : Type 0} (src : Source S) where
   module _ (ls : List ℕ) (n : ℕ) (inside : Bool) (i : ℕ) (w : S) where
@@ -26,13 +32,13 @@ module _ {S : Type 0} (src : Source S) where
       unfolding index_of
       index-near h = go_on src _ (index_then n inside i) w e ∙ rw (← q) (simp (lt-ltb _ _ h) (answered src _ v))
 
-      pub index-far : n ≤ j → inside ≡ true → run src (index_of ls n inside i) w ≡ refused 14 (src.stopped v)
+      pub index-far : inside && leb n j ≡ true → run src (index_of ls n inside i) w ≡ refused 14 (src.stopped v)
       unfolding index_of
-      index-far h b = go_on src _ (index_then n inside i) w e ∙ rw (← q) (simp (le-ltb _ _ h, b) (refusing src 14 v))
+      index-far h = go_on src _ (index_then n inside i) w e ∙ rw (← q) (rw (looked_at inside n j, h) (refusing src 14 v))
 
-      pub index-out : n ≤ j → inside ≡ false → run src (index_of ls n inside i) w ≡ got j v
+      pub index-kept : inside && leb n j ≡ false → run src (index_of ls n inside i) w ≡ got j v
       unfolding index_of
-      index-out h b = go_on src _ (index_then n inside i) w e ∙ rw (← q) (simp (le-ltb _ _ h, b) (answered src _ v))
+      index-kept h = go_on src _ (index_then n inside i) w e ∙ rw (← q) (rw (looked_at inside n j, h) (answered src _ v))
 
   -- an endpoint index is always looked at
   pub endpoint-is : (p : Plane) (i : ℕ) (w : S) → run src (endpoint_index p i) w ≡ run src (index_of p.endpoint_deltas p.endpoints true i) w
@@ -67,5 +73,7 @@ limited_le n x = go (ltb x n)
     go true = omega arith
     go false = omega arith
 
-pub reach-out : (inside : Bool) (n i d : ℕ) {j : ℕ} → inside ≡ false → j ≡ limited n (i + d) → d < farthest → j < reach inside i
-reach-out inside n i d e q h = rw e (omega (arith, limited_le n (i + d)))
+pub reach_kept : (inside : Bool) (n i d : ℕ) {j : ℕ} → inside && leb n j ≡ false → j ≡ limited n (i + d) → d < farthest → n ≤ farthest
+    → j < reach inside i
+reach_kept true n i d {j} e q h g = grind (arith, nat_tests)
+reach_kept false n i d e q h g = rw q (omega (arith, limited_le n (i + d)))

@@ -1,8 +1,9 @@
 -- The selector indices at the positions.
+use Rattle.std.specs.Prelude.{Ok, Err}
 use Prim.Native.Nat.{ℕ, zero, suc, ◌+◌, ◌*◌, ◌≤◌, ◌<◌}
 use mathlib.Core.Bool.{Bool, true, false}
 use mathlib.Core.List.{List, [], ◌∷◌, ◌++◌}
-use mathlib.Core.Path.{◌≡◌, refl, sym, ap, subst, ◌∙◌}
+use mathlib.Core.Path.{◌≡◌, refl, sym, ◌∙◌}
 use native.Mathlib.Omega.{arith}
 use native.Mathlib.Numerals.{add-one}
 use lib.ListN.{length, get_or, drop, set, length-set}
@@ -12,16 +13,11 @@ use Rattle.crn_format.specs.Level.{Plane, plane_selectors, position_selectors, l
 use Rattle.crn_format.proofs.Steps.{go_on, stop, answered}
 use Rattle.crn_symbol_codec.specs.Cursors.{Holds}
 use Rattle.crn_chunks.specs.Meaning.{source, spending, row, plane_of, planes, Coded, most}
-use Rattle.crn_chunks.specs.Parts.{drew, paired, WhenPaired, Draws, index_of, farthest, reach, Kept, Picks, rows_to, AllPicked}
+use Rattle.crn_chunks.specs.Parts.{Draws, index_of, farthest, reach, Kept, Picks, rows_to, AllPicked}
 use Rattle.crn_chunks.specs.Reads.{inside_of}
 use Rattle.crn_chunks.specs.declared.Planes.{Planes}
 use Rattle.crn_chunks.specs.declared.Stream.{Stream}
 use Rattle.crn_chunks.specs.declared.Stop.{Stop}
-use Rattle.crn_chunks.specs.declared.Drew.{Drew}
-use Rattle.crn_chunks.specs.declared.Drew.TheVariants.{Got, Lost}
-use Rattle.crn_chunks.specs.declared.Paired.{Paired}
-use Rattle.crn_chunks.specs.declared.Paired.TheVariants.{Pair, Unpaired}
-use Rattle.crn_chunks.proofs.Drawing.{when_drew, when_paired}
 use Rattle.crn_chunks.proofs.Indexing.{selector-is, reach-some}
 
 -- ---- at one position, over any source
@@ -57,55 +53,53 @@ module _ {S : Type 0} (src : Source S) (p q : Plane) (inside : Bool) (i j : ℕ)
 
 -- ---- the answer at a position, by those for the first plane and the second
 
-module _ {lookup sorted seg : List ℕ} (ps : Planes) (inside : Bool) (s0 s1 : ℕ) {s : Stream} {a : Drew}
-    (x : Draws lookup sorted seg ps (λ cs. index_of (cs ps.first.sels) ps.first.selectors inside s0) s (reach inside s0) a) where
-  pub picks_lost : {y : Stop} → a ≡ Lost y → Picks lookup sorted seg ps inside s0 s1 s (Unpaired y)
+module _ {lookup sorted seg : List ℕ} (ps : Planes) (inside : Bool) (s0 s1 : ℕ) {s : Stream} where
+  pub picks_lost : {y : Stop}
+      → Draws lookup sorted seg ps (λ cs. index_of (cs ps.first.sels) ps.first.selectors inside s0) s (reach inside s0) (Err y)
+      → Picks lookup sorted seg ps inside s0 s1 s (Err y)
   unfolding plane_of
-  picks_lost e =
+  picks_lost x =
       record {
         same = λ cs c. sym (spot_lost (source seg) (plane_of cs ps.first) (plane_of cs ps.second) inside s0 s1 (spending s) ps.two
-            (sym (x.same cs c) ∙ ap (drew (λ v. v)) e));
+            (sym (x.same cs c)));
         on = tt;
       }
 
-  module _ {i : ℕ} {t : Stream} (e : a ≡ Got i t) where
-    first_on : Holds seg t.cursor × (i < reach inside s0)
-    first_on = when_drew (λ v t. Holds seg t.cursor × (v < reach inside s0)) x.on e
-
-    pub picks_holds : Holds seg t.cursor
-    picks_holds = first_on.0
-
-    pub picks_one : ps.two ≡ false → Picks lookup sorted seg ps inside s0 s1 s (Pair i 0 t)
-    unfolding plane_of
-    picks_one h =
-        record {
-          same = λ cs c. sym (spot-one (source seg) (plane_of cs ps.first) (plane_of cs ps.second) inside s0 s1 (spending s) ps.two 0 h
-              (sym (x.same cs c) ∙ ap (drew (λ v. v)) e));
-          on = (first_on.0, (first_on.1, reach-some inside s1));
-        }
-
-    module _ (h : ps.two ≡ true) {b : Drew} (y : Draws lookup sorted seg ps
-        (λ cs. index_of (cs ps.second.sels) ps.second.selectors inside s1) t (reach inside s1) b) where
-      pub picks_then_lost : {z : Stop} → b ≡ Lost z → Picks lookup sorted seg ps inside s0 s1 s (Unpaired z)
+  module _ {i : ℕ} {t : Stream}
+      (x : Draws lookup sorted seg ps (λ cs. index_of (cs ps.first.sels) ps.first.selectors inside s0) s (reach inside s0) (Ok (i, t)))
+    where
+      pub picks_one : ps.two ≡ false → Picks lookup sorted seg ps inside s0 s1 s (Ok (i, 0, t))
       unfolding plane_of
-      picks_then_lost f =
+      picks_one h =
           record {
-            same = λ cs c.
-                sym (spot-then_lost (source seg) (plane_of cs ps.first) (plane_of cs ps.second) inside s0 s1 (spending s) ps.two h
-                (sym (x.same cs c) ∙ ap (drew (λ v. v)) e) (sym (y.same cs c) ∙ ap (drew (λ v. v)) f));
-            on = tt;
+            same = λ cs c. sym (spot-one (source seg) (plane_of cs ps.first) (plane_of cs ps.second) inside s0 s1 (spending s) ps.two 0 h
+                (sym (x.same cs c)));
+            on = (x.on.0, (x.on.1, reach-some inside s1));
           }
 
-      pub picks_two : {j : ℕ} {u : Stream} → b ≡ Got j u → Picks lookup sorted seg ps inside s0 s1 s (Pair i j u)
-      unfolding plane_of
-      picks_two f =
-          let r = when_drew (λ v t. Holds seg t.cursor × (v < reach inside s1)) y.on f in
-          record {
-            same = λ cs c.
-                sym (spot-two (source seg) (plane_of cs ps.first) (plane_of cs ps.second) inside s0 s1 (spending s) ps.two h
-                (sym (x.same cs c) ∙ ap (drew (λ v. v)) e) (sym (y.same cs c) ∙ ap (drew (λ v. v)) f));
-            on = (r.0, (first_on.1, r.1));
-          }
+      module _ (h : ps.two ≡ true) where
+        pub picks_then_lost : {z : Stop}
+            → Draws lookup sorted seg ps (λ cs. index_of (cs ps.second.sels) ps.second.selectors inside s1) t (reach inside s1) (Err z)
+            → Picks lookup sorted seg ps inside s0 s1 s (Err z)
+        unfolding plane_of
+        picks_then_lost y =
+            record {
+              same = λ cs c.
+                  sym (spot-then_lost (source seg) (plane_of cs ps.first) (plane_of cs ps.second) inside s0 s1 (spending s) ps.two h
+                  (sym (x.same cs c)) (sym (y.same cs c)));
+              on = tt;
+            }
+
+        pub picks_two : {j : ℕ} {u : Stream}
+            → Draws lookup sorted seg ps (λ cs. index_of (cs ps.second.sels) ps.second.selectors inside s1) t (reach inside s1) (Ok (j, u))
+            → Picks lookup sorted seg ps inside s0 s1 s (Ok (i, j, u))
+        unfolding plane_of
+        picks_two y =
+            record {
+              same = λ cs c. sym (spot-two (source seg) (plane_of cs ps.first) (plane_of cs ps.second) inside s0 s1 (spending s) ps.two h
+                  (sym (x.same cs c)) (sym (y.same cs c)));
+              on = (y.on.0, (x.on.1, y.on.1));
+            }
 
 -- ---- one position more, over any source
 
@@ -210,12 +204,11 @@ module _ {lookup sorted seg : List ℕ} {ps : Planes} {right bottom : Bool} {s0 
 
   module _ {before out : List ℕ} {at : Stream} {i0 i1 k : ℕ} (x : Picking lookup sorted seg ps right bottom s0 s1 s before out at i0 i1 k)
     where
-      module _ (more : k < 4) {inside : Bool} (f : inside ≡ get_or (inside_of right bottom) k true) {a : Paired}
-          (d : Picks lookup sorted seg ps inside i0 i1 at a) where
-        pub picking_more : {i j : ℕ} {t : Stream} → a ≡ Pair i j t → length before ≡ 16
+      module _ (more : k < 4) {inside : Bool} (f : inside ≡ get_or (inside_of right bottom) k true) where
+        pub picking_more : {i j : ℕ} {t : Stream} → Picks lookup sorted seg ps inside i0 i1 at (Ok (i, j, t)) → length before ≡ 16
             → Picking lookup sorted seg ps right bottom s0 s1 s before (set (set out (8 + k) i) (12 + k) j) t i j (k + 1)
-        picking_more {i} {j} {t} e l =
-            let g = when_paired (λ i j t. Holds seg t.cursor × ((i < reach inside i0) × (j < reach inside i1))) d.on e in
+        picking_more {i} {j} {t} d l =
+            let g = d.on in
             let q = rows_set ps.two out k i j more (x.long ∙ l) in
             record {
               some = omega arith;
@@ -226,21 +219,21 @@ module _ {lookup sorted seg : List ℕ} {ps : Planes} {right bottom : Bool} {s0 
               kept = λ p h. get_or-set_other (set out (8 + k) i) (12 + k) p j 0 (λ z. omega arith) ∙ get_or-set_other out (8 + k) p i 0
                   (λ z. omega arith) ∙ x.kept p h;
               left = λ cs c. x.left cs c ∙ row_more (source seg) (planes cs ps) (row ps.two i0 i1) (rows_to ps.two out k) (spending at)
-                  (flag right bottom k more f) (sym (d.same cs c) ∙ ap (paired (row ps.two)) e) ∙ rw q;
+                  (flag right bottom k more f) (sym (d.same cs c)) ∙ rw q;
             }
 
-        pub picking_lost : {y : Stop} → a ≡ Unpaired y → AllPicked lookup sorted seg ps (inside_of right bottom) s0 s1 s before out a
-        picking_lost e =
+        pub picking_lost : {y : Stop} → Picks lookup sorted seg ps inside i0 i1 at (Err y)
+            → AllPicked lookup sorted seg ps (inside_of right bottom) s0 s1 s before out (Err y)
+        picking_lost d =
             record {
               same = λ cs c.
-                  ap (paired (λ _ _. rows_to ps.two out 4)) e
-                  ∙ sym (x.left cs c ∙ row_lost (source seg) (planes cs ps) (row ps.two i0 i1) (rows_to ps.two out k) (spending at)
-                  (flag right bottom k more f) (sym (d.same cs c) ∙ ap (paired (row ps.two)) e));
-              on = subst (WhenPaired _) (sym e) tt;
+                  sym (x.left cs c ∙ row_lost (source seg) (planes cs ps) (row ps.two i0 i1) (rows_to ps.two out k) (spending at)
+                  (flag right bottom k more f) (sym (d.same cs c)));
+              on = tt;
               kept = x.kept;
             }
 
-      pub picking_done : 4 ≤ k → AllPicked lookup sorted seg ps (inside_of right bottom) s0 s1 s before out (Pair i0 i1 at)
+      pub picking_done : 4 ≤ k → AllPicked lookup sorted seg ps (inside_of right bottom) s0 s1 s before out (Ok (i0, i1, at))
       picking_done h =
           let e : k ≡ 4 = omega (arith, x.some) in
           let y = rw e at x in

@@ -1,8 +1,9 @@
 -- The endpoint indices of the tiles, plane by plane.
+use Rattle.std.specs.Prelude.{Ok, Err}
 use Prim.Native.Nat.{ℕ, suc, ◌+◌, ◌-◌, ◌≤◌, ◌<◌}
 use mathlib.Core.Bool.{Bool, true, false}
 use mathlib.Core.List.{List, [], ◌∷◌, ◌++◌}
-use mathlib.Core.Path.{◌≡◌, refl, sym, ap, subst, ◌∙◌}
+use mathlib.Core.Path.{◌≡◌, refl, sym, ap, ◌∙◌}
 use native.Mathlib.Omega.{arith}
 use native.Mathlib.Numerals.{add-one}
 use lib.ListN.{length, drop, set, length-take, length-drop, length-set}
@@ -12,15 +13,11 @@ use Rattle.crn_format.specs.Level.{Plane, endpoint_indices, plane_endpoints, las
 use Rattle.crn_format.proofs.Steps.{go_on, stop, answered}
 use Rattle.crn_symbol_codec.specs.Cursors.{Holds}
 use Rattle.crn_chunks.specs.Meaning.{source, spending, row, plane_of, Coded, most}
-use Rattle.crn_chunks.specs.Parts.{drew, WhenDrew, Draws, index_of, reach, tiles_at, Kept, Tiled, AllTiled}
+use Rattle.crn_chunks.specs.Parts.{Draws, index_of, reach, tiles_at, Kept, Tiled, AllTiled}
 use Rattle.crn_chunks.specs.declared.Side.{Side}
 use Rattle.crn_chunks.specs.declared.Planes.{Planes}
 use Rattle.crn_chunks.specs.declared.Stream.{Stream}
 use Rattle.crn_chunks.specs.declared.Stop.{Stop}
-use Rattle.crn_chunks.specs.declared.Drew.{Drew}
-use Rattle.crn_chunks.specs.declared.Drew.TheVariants.{Got, Lost}
-use Rattle.crn_chunks.specs.declared.Paired.TheVariants.{Pair, Unpaired}
-use Rattle.crn_chunks.proofs.Drawing.{when_drew}
 use Rattle.crn_chunks.proofs.Indexing.{endpoint-is}
 
 -- ---- one tile more, over any source
@@ -95,38 +92,37 @@ module _ {lookup sorted seg : List ℕ} {ps : Planes} {p : Side} {base n i : ℕ
       }
 
   module _ {before out : List ℕ} {at : Stream} {last k : ℕ} (x : Tiling lookup sorted seg ps p base n i s before out at last k) where
-    module _ (more : k < n) {a : Drew} (d : Draws lookup sorted seg ps (λ cs. index_of (cs p.ends) p.endpoints true last) at
-        (reach true last) a) where
-      pub tiling_more : {j : ℕ} {t : Stream} → a ≡ Got j t → base + n ≤ length before → Tiling lookup sorted seg ps p base n i s before
-          (set out (base + k) j) t j (k + 1)
+    module _ (more : k < n) where
+      pub tiling_more : {j : ℕ} {t : Stream}
+          → Draws lookup sorted seg ps (λ cs. index_of (cs p.ends) p.endpoints true last) at (reach true last) (Ok (j, t))
+          → base + n ≤ length before → Tiling lookup sorted seg ps p base n i s before (set out (base + k) j) t j (k + 1)
       unfolding plane_of
-      tiling_more {j} {t} e f =
-          let g = when_drew (λ v t. Holds seg t.cursor × (v < reach true last)) d.on e in
+      tiling_more {j} {t} d f =
           let q = tiles-set base k out j (omega (arith, x.long)) in
           record {
             some = omega arith;
-            holds = g.0;
-            below = omega (arith, g.1);
+            holds = d.on.0;
+            below = omega (arith, d.on.1);
             final = rw q (last_more i (tiles_at base k out) j);
             long = length-set out (base + k) j ∙ x.long;
             kept = kept_set base before out (base + k) j (omega arith) x.kept;
             left = λ cs c. x.left cs c ∙ tile_more (source seg) (plane_of cs p) n k (tiles_at base k out) last (spending at) more
-                (sym (d.same cs c) ∙ ap (drew (λ v. v)) e) ∙ rw q;
+                (sym (d.same cs c)) ∙ rw q;
           }
 
-      pub tiling_lost : {y : Stop} → a ≡ Lost y → Tiled lookup sorted seg ps p base n i s before out a
+      pub tiling_lost : {y : Stop}
+          → Draws lookup sorted seg ps (λ cs. index_of (cs p.ends) p.endpoints true last) at (reach true last) (Err y)
+          → Tiled lookup sorted seg ps p base n i s before out (Err y)
       unfolding plane_of
-      tiling_lost e =
+      tiling_lost d =
           record {
-            same = λ cs c.
-                ap (drew (λ _. tiles_at base n out)) e
-                ∙ sym (x.left cs c ∙ tile_lost (source seg) (plane_of cs p) n k (tiles_at base k out) last (spending at) more
-                (sym (d.same cs c) ∙ ap (drew (λ v. v)) e));
-            on = subst (WhenDrew _) (sym e) tt;
+            same = λ cs c. sym (x.left cs c ∙ tile_lost (source seg) (plane_of cs p) n k (tiles_at base k out) last (spending at) more
+                (sym (d.same cs c)));
+            on = tt;
             kept = x.kept;
           }
 
-    pub tiling_done : n ≤ k → Tiled lookup sorted seg ps p base n i s before out (Got last at)
+    pub tiling_done : n ≤ k → Tiled lookup sorted seg ps p base n i s before out (Ok (last, at))
     tiling_done h =
         let e : k ≡ n = omega (arith, x.some) in
         record {
@@ -174,53 +170,46 @@ false_true e f = let z : ◌≡◌ {A = ℕ} 0 1 = cc in absurd (omega arith)
 
 -- ---- the answer for all planes, by those for the first and the second
 
-module _ {lookup sorted seg : List ℕ} (ps : Planes) {n e0 : ℕ} (e1 : ℕ) {s : Stream} {before mid : List ℕ} {a : Drew}
-    (x : Tiled lookup sorted seg ps ps.first 0 n e0 s before mid a) where
-  pub tiles_lost : {y : Stop} → a ≡ Lost y → AllTiled lookup sorted seg ps n e0 e1 s mid (Unpaired y)
-  tiles_lost e =
+module _ {lookup sorted seg : List ℕ} (ps : Planes) {n e0 : ℕ} (e1 : ℕ) {s : Stream} {before mid : List ℕ} where
+  pub tiles_lost : {y : Stop} → Tiled lookup sorted seg ps ps.first 0 n e0 s before mid (Err y)
+      → AllTiled lookup sorted seg ps n e0 e1 s mid (Err y)
+  tiles_lost x =
       record {
         same = λ cs c. sym (planes_lost (source seg) (plane_of cs ps.first) (plane_of cs ps.second) n e0 e1 (spending s) ps.two
-            (sym (x.same cs c) ∙ ap (drew (λ _. tiles_at 0 n mid)) e));
+            (sym (x.same cs c)));
         on = tt;
       }
 
-  module _ {i : ℕ} {t : Stream} (e : a ≡ Got i t) where
-    first_on : Holds seg t.cursor × ((i < most) × (last_or e0 (tiles_at 0 n mid) ≡ i))
-    first_on = when_drew (λ j t. Holds seg t.cursor × ((j < most) × (last_or e0 (tiles_at 0 n mid) ≡ j))) x.on e
-
-    pub tiles-holds : Holds seg t.cursor
-    tiles-holds = first_on.0
-
-    pub tiles-one : ps.two ≡ false → e1 < most → AllTiled lookup sorted seg ps n e0 e1 s mid (Pair i e1 t)
+  module _ {i : ℕ} {t : Stream} (x : Tiled lookup sorted seg ps ps.first 0 n e0 s before mid (Ok (i, t))) where
+    pub tiles-one : ps.two ≡ false → e1 < most → AllTiled lookup sorted seg ps n e0 e1 s mid (Ok (i, e1, t))
     tiles-one h l =
-        let g = first_on in
+        let g = x.on in
         record {
           same = λ cs c. sym (planes-one (source seg) (plane_of cs ps.first) (plane_of cs ps.second) n e0 e1 (spending s) ps.two
-              (tiles_at 4 n mid) h (sym (x.same cs c) ∙ ap (drew (λ _. tiles_at 0 n mid)) e));
+              (tiles_at 4 n mid) h (sym (x.same cs c)));
           on = (g.0, (g.1.0, (l, lasts-row ps.two e0 e1 (tiles_at 0 n mid) (tiles_at 4 n mid) g.1.1 (λ f. false_true h f))));
         }
 
-    module _ (h : ps.two ≡ true) {after : List ℕ} {b : Drew} (y : Tiled lookup sorted seg ps ps.second 4 n e1 t mid after b) where
-      pub tiles-then_lost : {z : Stop} → b ≡ Lost z → AllTiled lookup sorted seg ps n e0 e1 s after (Unpaired z)
-      tiles-then_lost f =
+    module _ (h : ps.two ≡ true) {after : List ℕ} where
+      pub tiles-then_lost : {z : Stop} → Tiled lookup sorted seg ps ps.second 4 n e1 t mid after (Err z)
+          → AllTiled lookup sorted seg ps n e0 e1 s after (Err z)
+      tiles-then_lost y =
           record {
-            same = λ cs c.
-                sym (planes-then_lost (source seg) (plane_of cs ps.first) (plane_of cs ps.second) n e0 e1 (spending s) ps.two h
-                (sym (x.same cs c) ∙ ap (drew (λ _. tiles_at 0 n mid)) e) (sym (y.same cs c) ∙ ap (drew (λ _. tiles_at 4 n after)) f));
+            same = λ cs c. sym (planes-then_lost (source seg) (plane_of cs ps.first) (plane_of cs ps.second) n e0 e1 (spending s) ps.two h
+                (sym (x.same cs c)) (sym (y.same cs c)));
             on = tt;
           }
 
-      pub tiles-two : {j : ℕ} {u : Stream} → b ≡ Got j u → n ≤ 4 → length after ≡ length mid → AllTiled lookup sorted seg ps n e0 e1 s after
-          (Pair i j u)
-      tiles-two {j} {u} f l k =
-          let g = first_on in
-          let r = when_drew (λ j t. Holds seg t.cursor × ((j < most) × (last_or e1 (tiles_at 4 n after) ≡ j))) y.on f in
+      pub tiles-two : {j : ℕ} {u : Stream} → Tiled lookup sorted seg ps ps.second 4 n e1 t mid after (Ok (j, u)) → n ≤ 4
+          → length after ≡ length mid → AllTiled lookup sorted seg ps n e0 e1 s after (Ok (i, j, u))
+      tiles-two {j} {u} y l k =
+          let g = x.on in
+          let r = y.on in
           let q = kept-tiles 4 0 n mid after (omega arith) k y.kept in
           record {
             same = λ cs c.
                 sym (planes-two (source seg) (plane_of cs ps.first) (plane_of cs ps.second) n e0 e1 (spending s) ps.two h
-                (sym (x.same cs c) ∙ ap (drew (λ _. tiles_at 0 n mid)) e ∙ ap (λ (xs : List ℕ). got xs (spending t)) (sym q))
-                (sym (y.same cs c) ∙ ap (drew (λ _. tiles_at 4 n after)) f));
+                (sym (x.same cs c) ∙ ap (λ (xs : List ℕ). got xs (spending t)) (sym q)) (sym (y.same cs c)));
             on = (
               r.0,
               (

@@ -4,6 +4,7 @@ use Rattle.crn_format.specs.Choice.{pick}
 use Rattle.crn_format.specs.Limits.{max_entries}
 use Rattle.crn_format.specs.Reading.{Step, refused, Source, Spending, spot, from_bits, budgeted}
 use Rattle.crn_format.specs.Level.{Plane, Running, Chunk, tile_counts}
+use Rattle.crn_format.specs.Refusals.{number_of}
 use Rattle.crn_symbol_codec.specs.Cursors.{place, Holds}
 use Rattle.crn_symbol_codec.specs.Decoders.{Decodes}
 use Rattle.crn_chunks.specs.declared.Side.{Side}
@@ -23,7 +24,7 @@ spending s = record { place = spot (place s.cursor) s.blamed; left = s.left }
 
 -- a refusal, as a step
 abbrev pub stopped : {A : Type 0} → Stop → Step Spending A
-stopped x = refused x.number (record { place = spot x.at x.at; left = x.left })
+stopped x = refused (number_of x.refusal) (record { place = spot x.at x.at; left = x.left })
 
 -- ---- the planes
 

@@ -1,23 +1,21 @@
 -- What the parts of a chunk answer: a symbol, an index, the indices of tiles and of positions, and an encoding.
-use Rattle.std.specs.Prelude.{ℕ, zero, suc, ◌+◌, ◌-◌, ◌<◌, ◌≡◌, Bool, List, [], ◌∷◌, ◌++◌, length, get_or, take, drop, ltb}
+use Rattle.std.specs.Prelude.{Ok, Err, ℕ, zero, suc, ◌+◌, ◌-◌, ◌<◌, ◌≡◌, Bool, List, [], ◌∷◌, ◌++◌, length, get_or, take, drop, ltb}
+use Rattle.std.specs.declared.result.Result.{Result}
+use Rattle.crn_format.specs.Refusals.{number_of}
+use Rattle.crn_format.specs.declared.Refusal.{Refusal}
 use Rattle.crn_format.specs.Choice.{pick, not, either}
 use Rattle.crn_format.specs.Limits.{too_long}
 use Rattle.crn_format.specs.Reading.{Reading, answer, refuse, symbol, next, Step, got, refused, Spending, spot, run}
-use Rattle.crn_format.specs.Level.{stepped, endpoint_indices, plane_endpoints, plane_selectors, position_selectors, encoding, last_or, lasts, last_row}
+use Rattle.crn_format.specs.Level.{stepped, endpoint_indices, plane_endpoints, plane_selectors, position_selectors, encoding}
+use Rattle.crn_format.specs.Level.{last_or, lasts, last_row}
 use Rattle.crn_symbol_codec.specs.Cursors.{place, Holds}
+use Rattle.crn_symbol_codec.specs.Taking.{Taken}
 use Rattle.crn_symbol_codec.specs.declared.Cursor.{Cursor}
-use Rattle.crn_symbol_codec.specs.declared.Taken.{Taken}
-use Rattle.crn_symbol_codec.specs.declared.Taken.TheVariants.{Value, Failed}
 use Rattle.crn_chunks.specs.Meaning.{source, spending, stopped, row, plane_of, planes, Coded, Served, pending_of, most}
 use Rattle.crn_chunks.specs.declared.Side.{Side}
 use Rattle.crn_chunks.specs.declared.Planes.{Planes}
 use Rattle.crn_chunks.specs.declared.Stream.{Stream}
-use Rattle.crn_chunks.specs.declared.Drew.{Drew}
-use Rattle.crn_chunks.specs.declared.Drew.TheVariants.{Got, Lost}
-use Rattle.crn_chunks.specs.declared.Paired.{Paired}
-use Rattle.crn_chunks.specs.declared.Paired.TheVariants.{Pair, Unpaired}
-use Rattle.crn_chunks.specs.declared.Encoded.{Encoded}
-use Rattle.crn_chunks.specs.declared.Encoded.TheVariants.{Code, Uncoded}
+use Rattle.crn_chunks.specs.declared.Stop.{Stop}
 
 -- a part can be read
 pub record Ready (lookup sorted seg : List ℕ) (ps : Planes) (s : Stream) : Type 0 where
@@ -25,44 +23,56 @@ pub record Ready (lookup sorted seg : List ℕ) (ps : Planes) (s : Stream) : Typ
   pub served : Served ps lookup sorted
   pub holds : Holds seg s.cursor
 
+-- ---- the answers: a number, a pair, or an encoding with what is then pending, and the stream after it; or the refusal
+
+abbrev pub Drew : Type 0
+Drew = Result (ℕ × Stream) Stop
+
+abbrev pub Paired : Type 0
+Paired = Result (ℕ × ℕ × Stream) Stop
+
+-- the refusal of a symbol that was drawn
+abbrev pub blamed : Refusal → Stream → Stop
+blamed n s = record { refusal = n; at = s.blamed; left = s.left }
+
 -- ---- the answers as steps, where the number, or the pair, stands for the answer that f makes of it
 
 abbrev pub drew : {A : Type 0} → (ℕ → A) → Drew → Step Spending A
-drew f (Got v t) = got (f v) (spending t)
-drew f (Lost x) = stopped x
+drew f (Ok (v, t)) = got (f v) (spending t)
+drew f (Err x) = stopped x
 
 abbrev pub paired : {A : Type 0} → (ℕ → ℕ → A) → Paired → Step Spending A
-paired f (Pair a b t) = got (f a b) (spending t)
-paired f (Unpaired x) = stopped x
+paired f (Ok (a, b, t)) = got (f a b) (spending t)
+paired f (Err x) = stopped x
 
-abbrev pub encoded : Encoded → Step Spending (ℕ × List ℕ)
-encoded (Code e v t) = got (e, pending_of v) (spending t)
-encoded (Uncoded x) = stopped x
+abbrev pub encoded : Paired → Step Spending (ℕ × List ℕ)
+encoded (Ok (e, v, t)) = got (e, pending_of v) (spending t)
+encoded (Err x) = stopped x
 
 -- ---- what holds of an answer that is no refusal
 
 abbrev pub WhenTaken : (ℕ → Cursor → Type 0) → Taken → Type 0
-WhenTaken P (Value v d) = P v d
-WhenTaken P (Failed n) = Unit {0}
+WhenTaken P (Ok (v, d)) = P v d
+WhenTaken P (Err n) = Unit {0}
 
 abbrev pub WhenDrew : (ℕ → Stream → Type 0) → Drew → Type 0
-WhenDrew P (Got v t) = P v t
-WhenDrew P (Lost x) = Unit {0}
+WhenDrew P (Ok (v, t)) = P v t
+WhenDrew P (Err x) = Unit {0}
 
 abbrev pub WhenPaired : (ℕ → ℕ → Stream → Type 0) → Paired → Type 0
-WhenPaired P (Pair a b t) = P a b t
-WhenPaired P (Unpaired x) = Unit {0}
+WhenPaired P (Ok (a, b, t)) = P a b t
+WhenPaired P (Err x) = Unit {0}
 
-abbrev pub WhenEncoded : (ℕ → Stream → Type 0) → Encoded → Type 0
-WhenEncoded P (Code e v t) = P e t
-WhenEncoded P (Uncoded x) = Unit {0}
+abbrev pub WhenEncoded : (ℕ → Stream → Type 0) → Paired → Type 0
+WhenEncoded P (Ok (e, v, t)) = P e t
+WhenEncoded P (Err x) = Unit {0}
 
 -- ---- a symbol, and an index
 
 -- the answer to a draw at s, as a step: a symbol is taken off the budget
 abbrev pub charging : Stream → Taken → Step Spending ℕ
-charging s (Value v d) = got v (record { place = spot (place d) (place s.cursor); left = s.left - 1 })
-charging s (Failed n) = refused n (record { place = spot (place s.cursor) (place s.cursor); left = s.left })
+charging s (Ok (v, d)) = got v (record { place = spot (place d) (place s.cursor); left = s.left - 1 })
+charging s (Err n) = refused (number_of n) (record { place = spot (place s.cursor) (place s.cursor); left = s.left })
 
 -- r is what drawing a symbol of table number `which` gives at s, 15 included
 pub record Budgeted (lookup sorted seg : List ℕ) (ps : Planes) (which : ℕ) (s : Stream) (r : Taken) : Type 0 where
@@ -70,7 +80,8 @@ pub record Budgeted (lookup sorted seg : List ℕ) (ps : Planes) (which : ℕ) (
   pub on : WhenTaken (λ v d. Holds seg d × (0 < s.left)) r
 
 -- a is what reading m gives at s, and its number is below the bound
-pub record Draws (lookup sorted seg : List ℕ) (ps : Planes) (m : (ℕ → List ℕ) → Reading ℕ) (s : Stream) (bound : ℕ) (a : Drew) : Type 0 where
+pub record Draws (lookup sorted seg : List ℕ) (ps : Planes) (m : (ℕ → List ℕ) → Reading ℕ) (s : Stream) (bound : ℕ) (a : Drew)
+    : Type 0 where
   pub same : (cs : ℕ → List ℕ) → Coded cs ps lookup sorted → drew (λ v. v) a ≡ run (source seg) (m cs) (spending s)
   pub on : WhenDrew (λ v t. Holds seg t.cursor × (v < bound)) a
 
@@ -98,7 +109,8 @@ abbrev pub Kept : ℕ → List ℕ → List ℕ → Type 0
 Kept base before after = (q : ℕ) → q < base → get_or after q 0 ≡ get_or before q 0
 
 -- a plane's n endpoint indices from i on stand at `base`, and the answer has the last
-pub record Tiled (lookup sorted seg : List ℕ) (ps : Planes) (p : Side) (base n i : ℕ) (s : Stream) (before after : List ℕ) (a : Drew) : Type 0 where
+pub record Tiled (lookup sorted seg : List ℕ) (ps : Planes) (p : Side) (base n i : ℕ) (s : Stream) (before after : List ℕ)
+    (a : Drew) : Type 0 where
   pub same : (cs : ℕ → List ℕ) → Coded cs ps lookup sorted
       → drew (λ _. tiles_at base n after) a ≡ run (source seg) (endpoint_indices (plane_of cs p) n i []) (spending s)
   pub on : WhenDrew (λ j t. Holds seg t.cursor × ((j < most) × (last_or i (tiles_at base n after) ≡ j))) a
@@ -128,7 +140,8 @@ rows_to two out zero = []
 rows_to two out (suc k) = rows_to two out k ++ (row two (get_or out (8 + k) 0) (get_or out (12 + k) 0) ∷ [])
 
 -- those of all positions stand from 8 on, and the answer has the last
-pub record AllPicked (lookup sorted seg : List ℕ) (ps : Planes) (inside : List Bool) (s0 s1 : ℕ) (s : Stream) (before after : List ℕ) (a : Paired) : Type 0 where
+pub record AllPicked (lookup sorted seg : List ℕ) (ps : Planes) (inside : List Bool) (s0 s1 : ℕ) (s : Stream)
+    (before after : List ℕ) (a : Paired) : Type 0 where
   pub same : (cs : ℕ → List ℕ) → Coded cs ps lookup sorted
       → paired (λ _ _. rows_to ps.two after 4) a
       ≡ run (source seg) (position_selectors (planes cs ps) inside (row ps.two s0 s1) []) (spending s)
@@ -138,7 +151,7 @@ pub record AllPicked (lookup sorted seg : List ℕ) (ps : Planes) (inside : List
 
 -- ---- the next encoding, where v is pending
 
-pub record Encodes (lookup sorted seg : List ℕ) (ps : Planes) (v : ℕ) (s : Stream) (a : Encoded) : Type 0 where
+pub record Encodes (lookup sorted seg : List ℕ) (ps : Planes) (v : ℕ) (s : Stream) (a : Paired) : Type 0 where
   pub same : (cs : ℕ → List ℕ) → Coded cs ps lookup sorted
       → encoded a ≡ run (source seg) (encoding (cs 0) (pending_of v)) (spending s)
   pub on : WhenEncoded (λ e t. Holds seg t.cursor × (e < 8)) a

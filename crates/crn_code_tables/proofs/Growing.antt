@@ -11,7 +11,7 @@ use borrow.Author.Tests.{le-leb, lt-leb, lt-ltb}
 use lib.Seq.{paste, length-take-le, get_or-append-add}
 use Rattle.crn_format.specs.Limits.{max_symbols, max_length}
 use Rattle.crn_format.specs.Choice.{both}
-use Rattle.crn_format.specs.Codes.{room, all_fit, is_code}
+use Rattle.crn_format.specs.Codes.{room as room_of, all_fit, is_code}
 use Rattle.crn_format.specs.Reading.{got, refused, run, from_bits, spot}
 use Rattle.crn_format.specs.Tables.{lengths_from}
 use Rattle.crn_format.proofs.Steps.{go_on, stop}
@@ -20,18 +20,19 @@ use Rattle.crn_symbol_codec.specs.Decoders.{Decodes}
 use Rattle.crn_symbol_codec.specs.declared.Cursor.{Cursor}
 use Rattle.crn_static_huffman_data_model.specs.Building.{share_of}
 use Rattle.crn_static_huffman_data_model.proofs.Room.{fit_more, room-more, by_room}
-use Rattle.crn_code_tables.specs.declared.parts.Ran.{Ran}
-use Rattle.crn_code_tables.specs.Parts.{Runs, all_runs}
-use Rattle.crn_code_tables.proofs.Telling.{said-got, said-refused}
+use Rattle.std.specs.Prelude.{Ok, Err}
+use Rattle.crn_format.specs.declared.Fault.{Fault}
+use Rattle.crn_symbol_codec.specs.Telling.{fault}
+use Rattle.crn_code_tables.specs.Parts.{Draws, Runs, all_runs}
 use Rattle.crn_code_tables.proofs.Putting.{run-front, run-rest, run_length, zeros-front, zeros-rest}
 use Rattle.crn_code_tables.proofs.Receiving.{checked_good, checked_bad}
-use Rattle.crn_code_tables.proofs.Running.{drawn_run, turn-refused, turn-long, turn_more}
+use Rattle.crn_code_tables.proofs.Running.{turn-refused, turn-long, turn_more}
 
 -- ---- the room of lengths and a run after them
 
 module _ (ls more : List ℕ) where
-  room-front : (k : ℕ) → k ≤ length ls → room (ls ++ more) k ≡ room ls k
-  unfolding room
+  room-front : (k : ℕ) → k ≤ length ls → room_of (ls ++ more) k ≡ room_of ls k
+  unfolding room_of
   room-front zero h = refl
   room-front (suc k) h = rw (get_or-append ls more 0 k (omega arith), room-front k (omega arith))
 
@@ -44,7 +45,7 @@ module _ (ls : List ℕ) (n v : ℕ) where
   run_at : (k : ℕ) → k < n → get_or (ls ++ replicate n v) (length ls + k) 0 ≡ v
   run_at k h = get_or-append-add ls (replicate n v) k 0 ∙ get_or-replicate n k v 0 h
 
-  room-run : (k : ℕ) → k ≤ n → room (ls ++ replicate n v) (length ls + k) ≡ room ls (length ls) + k * share_of v
+  room-run : (k : ℕ) → k ≤ n → room_of (ls ++ replicate n v) (length ls + k) ≡ room_of ls (length ls) + k * share_of v
   room-run zero h =
       let z : length ls + 0 ≡ length ls = omega arith in
       rw z (omega (arith, room-front ls (replicate n v) (length ls) (omega arith)))
@@ -64,8 +65,8 @@ module _ (ls : List ℕ) (n v : ℕ) where
 
 -- ---- the state of the loop
 
--- at the cursor `at`, with `done` of the `count` lengths that are sent from c on, whose codes take the room `sum`; `turns` are left, and a refusal now would
--- name `blamed`
+-- at the cursor `at`, with `done` of the `count` lengths that are sent from c on, whose codes take the room `sum`; `turns` are left, and
+-- a refusal now would name `blamed`
 pub record State (lookup sorted seg : List ℕ) (c : Cursor) (count : ℕ) (lengths : List ℕ) (done last sum : ℕ) (at : Cursor) : Type 0 where
   pub long : length lengths ≡ max_symbols
   pub within : done ≤ count
@@ -73,7 +74,7 @@ pub record State (lookup sorted seg : List ℕ) (c : Cursor) (count : ℕ) (leng
   pub holds : Holds seg at
   pub short : last ≤ max_length
   pub fits : all_fit (take done lengths) done ≡ true
-  pub sums : sum ≡ room (take done lengths) done
+  pub sums : sum ≡ room_of (take done lengths) done
   pub few : sum ≤ 65535 * done
   pub turns : ℕ
   pub enough : count ≤ done + turns
@@ -90,80 +91,67 @@ module _
     front_long = length-take-le done lengths (omega (arith, s.long))
 
     -- a run is refused
-    module _ {k : ℕ} {e : Cursor} (some : 0 < k) (holds : Holds seg e) where
-      stopped : ((cl : List ℕ) → Decodes cl lookup sorted → run (from_bits seg) (lengths_from cl count s.turns last (take done lengths))
-          (spot (place at) s.blamed) ≡ refused k (spot (place e) (place e)))
-          → Runs lookup sorted seg c count (record { refusal = k; cursor = e; room = 0 }) lengths
-      stopped f =
+    stopped : {e : Fault} → ((cl : List ℕ) → Decodes cl lookup sorted
+        → run (from_bits seg) (lengths_from cl count s.turns last (take done lengths)) (spot (place at) s.blamed) ≡ fault e)
+        → Runs lookup sorted seg c count (Err e) lengths
+    stopped f = record { long = s.long; blamed = 0; same = λ cl d. sym (s.same cl d) ∙ f cl d; goes = tt }
+
+    pub run-refused : {e : Fault} → Draws lookup sorted seg last at (Err e) → Runs lookup sorted seg c count (Err e) lengths
+    run-refused r =
+        stopped (λ cl d. turn-refused seg cl last (place at) count s.turns (take done lengths) s.blamed (omega (arith, front_long))
+        (omega (arith, front_long, s.enough)) (r.same cl d))
+
+    module _ {n v : ℕ} {d : Cursor} (r : Draws lookup sorted seg last at (Ok ((v, n), d))) where
+      -- or goes past the count
+      pub run_long : {e : Fault} → fault {A = List ℕ} e ≡ refused 6 (spot (place at) (place at)) → count - done < n
+          → Runs lookup sorted seg c count (Err e) lengths
+      run_long f l =
+          stopped
+          (λ cl h. turn-long seg cl last (place at) count s.turns (take done lengths) s.blamed (omega (arith, front_long))
+          (omega (arith, front_long, s.enough)) (r.same cl h) (omega (arith, front_long)) ∙ sym f)
+
+      -- or comes after the others
+      grown : (after : List ℕ) (sum' : ℕ) → done + n ≤ count → length after ≡ max_symbols
+          → take (done + n) after ≡ take done lengths ++ replicate n v → drop (done + n) after ≡ replicate (max_symbols - (done + n)) 0
+          → sum' ≡ sum + n * share_of v → sum' ≤ 65535 * (done + n)
+          → State lookup sorted seg c count after (done + n) v sum' d
+      grown after sum' fit long front rest is few =
+          let some = r.goes.1 in
+          let small = r.goes.0 in
           record {
-            long = s.long;
-            holds = holds;
-            blamed = 0;
-            same = λ cl d. sym (s.same cl d) ∙ f cl d ∙ sym (said-refused k (place e) (take count lengths) 0 (λ z. omega arith));
-            rest = λ z. absurd (omega arith);
-            fits = λ z. absurd (omega arith);
-            room = λ z. absurd (omega arith);
+            long = long;
+            within = fit;
+            rest = rest;
+            holds = r.goes.2;
+            short = small;
+            fits = rw front (rw front_long at (fit_run (take done lengths) n v small (rw front_long s.fits) n (omega arith)));
+            sums = rw front (is ∙ omega (arith, s.sums, rw front_long at (room-run (take done lengths) n v n (omega arith))));
+            few = few;
+            turns = s.turns - 1;
+            enough = omega (arith, s.enough);
+            blamed = place at;
+            same = λ cl h.
+                ap (λ (ls : List ℕ). run (from_bits seg) (lengths_from cl count (s.turns - 1) v ls) (spot (place d) (place at))) front
+                ∙ sym (turn_more seg cl last (place at) count s.turns (take done lengths) s.blamed (omega (arith, front_long))
+                (omega (arith, front_long, s.enough)) (r.same cl h) (omega (arith, front_long)))
+                ∙ s.same cl h;
           }
 
-      pub run-refused : ((cl : List ℕ) → Decodes cl lookup sorted → run (from_bits seg) (drawn_run cl last) (spot (place at) (place at)) ≡
-          refused k (spot (place e) (place e)))
-          → Runs lookup sorted seg c count (record { refusal = k; cursor = e; room = 0 }) lengths
-      run-refused f =
-          stopped (λ cl d. turn-refused seg cl last (place at) count s.turns (take done lengths) s.blamed (omega (arith, front_long))
-          (omega (arith, front_long, s.enough)) (f cl d))
-
-    module _
-        {n v : ℕ} (d : Cursor)
-        (f : (cl : List ℕ) → Decodes cl lookup sorted → run (from_bits seg) (drawn_run cl last) (spot (place at) (place at)) ≡ got (n, v)
-        (spot (place d) (place at)))
-      where
-        -- or goes past the count
-        pub run_long : count - done < n → Runs lookup sorted seg c count (record { refusal = 6; cursor = at; room = 0 }) lengths
-        run_long l =
-            stopped (omega arith) s.holds
-            (λ cl h. turn-long seg cl last (place at) count s.turns (take done lengths) s.blamed (omega (arith, front_long))
-            (omega (arith, front_long, s.enough)) (f cl h) (omega (arith, front_long)))
-
-        -- or comes after the others
-        grown : (after : List ℕ) (sum' : ℕ) → 0 < n → done + n ≤ count → v ≤ max_length → Holds seg d → length after ≡ max_symbols
-            → take (done + n) after ≡ take done lengths ++ replicate n v → drop (done + n) after ≡ replicate (max_symbols - (done + n)) 0
-            → sum' ≡ sum + n * share_of v → sum' ≤ 65535 * (done + n)
-            → State lookup sorted seg c count after (done + n) v sum' d
-        grown after sum' some fit small holds long front rest is few =
-            record {
-              long = long;
-              within = fit;
-              rest = rest;
-              holds = holds;
-              short = small;
-              fits = rw front (rw front_long at (fit_run (take done lengths) n v small (rw front_long s.fits) n (omega arith)));
-              sums = rw front (is ∙ omega (arith, s.sums, rw front_long at (room-run (take done lengths) n v n (omega arith))));
-              few = few;
-              turns = s.turns - 1;
-              enough = omega (arith, s.enough);
-              blamed = place at;
-              same = λ cl h.
-                  ap (λ (ls : List ℕ). run (from_bits seg) (lengths_from cl count (s.turns - 1) v ls) (spot (place d) (place at))) front
-                  ∙ sym (turn_more seg cl last (place at) count s.turns (take done lengths) s.blamed (omega (arith, front_long))
-                  (omega (arith, front_long, s.enough)) (f cl h) (omega (arith, front_long)))
-                  ∙ s.same cl h;
-            }
-
+      module _ {room : ℕ} (fit : n ≤ count - done) (is : room ≡ n * share_of v) (few : room ≤ 65535 * n) where
         -- zeros stand there already
-        pub grown_zeros : v ≡ 0 → 0 < n → n ≤ count - done → Holds seg d → State lookup sorted seg c count lengths (done + n) v sum d
-        grown_zeros z some fit holds =
-            grown lengths sum some (omega arith) (omega arith) holds s.long
+        pub grown_zeros : v ≡ 0 → State lookup sorted seg c count lengths (done + n) v (sum + room) d
+        grown_zeros z =
+            grown lengths (sum + room) (omega arith) s.long
             (rw z (zeros-front lengths done n (max_symbols - done) (omega arith) s.rest))
             (zeros-rest lengths done n max_symbols (omega arith) s.rest)
-            (rw z (omega arith)) (omega (arith, s.few))
+            (ap (λ (x : ℕ). sum + x) is) (omega (arith, s.few))
 
         -- others are put there
-        pub grown_put : {after : List ℕ} (room : ℕ) → 0 < n → n ≤ count - done → v ≤ max_length → Holds seg d → after ≡ paste lengths done
-            (replicate n v) n
-            → room ≡ n * share_of v → room ≤ 65535 * n → State lookup sorted seg c count after (done + n) v (sum + room) d
-        grown_put {after} room some fit small holds put is few =
+        pub grown_put : {after : List ℕ} → after ≡ paste lengths done (replicate n v) n
+            → State lookup sorted seg c count after (done + n) v (sum + room) d
+        grown_put {after} put =
             let within : done + n ≤ length lengths = omega (arith, s.long) in
-            grown after (sum + room) some (omega arith) small holds (ap length put ∙ run_length lengths done n v within ∙ s.long)
+            grown after (sum + room) (omega arith) (ap length put ∙ run_length lengths done n v within ∙ s.long)
             (ap (take (done + n)) put ∙ run-front lengths done n v within)
             (ap (drop (done + n)) put ∙ run-rest lengths done n v within max_symbols (omega arith) s.rest)
             (ap (λ (x : ℕ). sum + x) is) (omega (arith, s.few))
@@ -171,35 +159,32 @@ module _
 -- ---- whether they make a code
 
 module _
-    {lookup sorted seg : List ℕ} {c : Cursor} {count : ℕ} {r : Ran} {lent : List ℕ}
-    (ran : Runs lookup sorted seg c count r lent) (most : count ≤ max_symbols)
+    {lookup sorted seg : List ℕ} {c : Cursor} {count : ℕ} {lent : List ℕ}
   where
-    pub all-refused : (r.refusal ≡ 0 → ⊥) → (cl : List ℕ) → Decodes cl lookup sorted
-        → run (from_bits seg) (all_runs cl count) (spot (place c) (place c)) ≡ refused r.refusal (spot (place r.cursor) (place r.cursor))
-    all-refused z cl d = stop _ _ _ _ (ran.same cl d ∙ said-refused _ _ _ _ z)
+    pub all-refused : {e : Fault} → Runs lookup sorted seg c count (Err e) lent → (cl : List ℕ) → Decodes cl lookup sorted
+        → run (from_bits seg) (all_runs cl count) (spot (place c) (place c)) ≡ fault e
+    all-refused ran cl d = stop _ _ _ _ (ran.same cl d)
 
-    module _ (z : r.refusal ≡ 0) where
-      code_by : is_code (take count lent) ≡ both (leb r.room 65536) (ltb 0 r.room)
+    module _ {room : ℕ} {at : Cursor} (ran : Runs lookup sorted seg c count (Ok (room, at)) lent) (most : count ≤ max_symbols) where
+      code_by : is_code (take count lent) ≡ both (leb room 65536) (ltb 0 room)
       code_by =
           let l = length-take-le count lent (omega (arith, ran.long)) in
-          by_room (take count lent) (rw l (ran.fits z)) ∙ ap (λ (x : ℕ). both (leb x 65536) (ltb 0 x))
-          (ap (room (take count lent)) l ∙ sym (ran.room z))
+          by_room (take count lent) (rw l ran.goes.fits) ∙ ap (λ (x : ℕ). both (leb x 65536) (ltb 0 x))
+          (ap (room_of (take count lent)) l ∙ sym ran.goes.is)
 
       all_bad : is_code (take count lent) ≡ false → (cl : List ℕ) → Decodes cl lookup sorted
-          → run (from_bits seg) (all_runs cl count) (spot (place c) (place c)) ≡ refused 6 (spot (place r.cursor) (place r.cursor))
-      all_bad e cl d = go_on _ _ _ _ (ran.same cl d ∙ said-got _ _ _ _ z) ∙ checked_bad _ _ _ _ e
+          → run (from_bits seg) (all_runs cl count) (spot (place c) (place c)) ≡ refused 6 (spot (place at) (place at))
+      all_bad e cl d = go_on _ _ _ _ (ran.same cl d) ∙ checked_bad _ _ _ _ e
 
-      pub all_none : r.room ≡ 0 → (cl : List ℕ) → Decodes cl lookup sorted
-          → run (from_bits seg) (all_runs cl count) (spot (place c) (place c)) ≡ refused 6 (spot (place r.cursor) (place r.cursor))
+      pub all_none : room ≡ 0 → (cl : List ℕ) → Decodes cl lookup sorted
+          → run (from_bits seg) (all_runs cl count) (spot (place c) (place c)) ≡ refused 6 (spot (place at) (place at))
       all_none n = all_bad (code_by ∙ rw n refl)
 
-      pub all_large : 65536 < r.room → (cl : List ℕ) → Decodes cl lookup sorted
-          → run (from_bits seg) (all_runs cl count) (spot (place c) (place c)) ≡ refused 6 (spot (place r.cursor) (place r.cursor))
+      pub all_large : 65536 < room → (cl : List ℕ) → Decodes cl lookup sorted
+          → run (from_bits seg) (all_runs cl count) (spot (place c) (place c)) ≡ refused 6 (spot (place at) (place at))
       all_large h = all_bad (code_by ∙ simp (lt-leb _ _ h))
 
-      pub all_good : (r.room ≡ 0 → ⊥) → r.room ≤ 65536 → (cl : List ℕ) → Decodes cl lookup sorted
-          → run (from_bits seg) (all_runs cl count) (spot (place c) (place c)) ≡ got (take count lent)
-          (spot (place r.cursor) (place r.cursor))
+      pub all_good : (room ≡ 0 → ⊥) → room ≤ 65536 → (cl : List ℕ) → Decodes cl lookup sorted
+          → run (from_bits seg) (all_runs cl count) (spot (place c) (place c)) ≡ got (take count lent) (spot (place at) (place at))
       all_good n h cl d =
-          go_on _ _ _ _ (ran.same cl d ∙ said-got _ _ _ _ z) ∙ checked_good _ _ _ _
-          (code_by ∙ simp (le-leb _ _ h, lt-ltb 0 r.room (omega arith)))
+          go_on _ _ _ _ (ran.same cl d) ∙ checked_good _ _ _ _ (code_by ∙ simp (le-leb _ _ h, lt-ltb 0 room (omega arith)))

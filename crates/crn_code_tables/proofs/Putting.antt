@@ -1,11 +1,13 @@
 -- What a run put into the lengths does to them.
-use Prim.Native.Nat.{ℕ, ◌+◌, ◌-◌, ◌≤◌, ◌<◌}
+use Prim.Native.Nat.{ℕ, ◌+◌, ◌-◌, ◌≤◌}
 use mathlib.Core.List.{List, [], ◌++◌}
-use mathlib.Core.Path.{◌≡◌, sym, ap, subst, ◌∙◌}
-use native.Mathlib.Numerals.{add-one}
+use mathlib.Core.Path.{◌≡◌, sym, ap, ◌∙◌}
 use native.Mathlib.Omega.{arith}
-use lib.ListN.{length, set, take, drop, replicate, length-replicate, get_or-replicate, take-append-drop, replicate-append-replicate}
-use lib.Seq.{paste, paste-zero, paste-suc, take-paste, drop-paste, take_all, take-add, take_at, drop_at, drop-drop, length-take-le, length-paste}
+use lib.ListN.{length, set, take, drop, replicate, length-drop, length-replicate, take-append-drop, replicate-append-replicate}
+use lib.Seq.{paste, take-paste, drop-paste, take_all, take-add, take_at, drop_at, drop-drop, length-take-le, length-paste}
+use borrow.Rule.Slice.PartMut.{put_mid}
+use Rattle.std.proofs.lemmas.List.Edits.{paste_none, fill_from_more}
+use Rattle.std.proofs.lemmas.Slice.{put_mid-paste}
 use Rattle.crn_format.specs.Limits.{max_symbols}
 use Rattle.crn_format.specs.Opening.{table_of}
 use Rattle.crn_format.specs.declared.Table.{Table}
@@ -48,27 +50,21 @@ module _ (ls : List ℕ) (at n v : ℕ) (room : at + n ≤ length ls) where
   pub run_length : length (paste ls at (replicate n v) n) ≡ length ls
   run_length = let e = length-replicate n v in length-paste ls at (replicate n v) n room (omega arith)
 
--- a length more
-pub run_more : (d : List ℕ) (at n v j : ℕ) (a : List ℕ) → at + n ≤ length d → j < n → a ≡ paste d at (replicate n v) j
-    → set a (at + j) v ≡ paste d at (replicate n v) (j + 1)
-run_more d at n v j a room h e =
-    ap (λ (l : List ℕ). set l (at + j) v) e
-    ∙ ap (λ (x : ℕ). set (paste d at (replicate n v) j) (at + j) x) (sym (get_or-replicate n j v 0 h))
-    ∙ paste-suc d at (replicate n v) j 0 (omega arith) (subst (λ (k : ℕ). j < k) (sym (length-replicate n v)) h)
-    ∙ ap (λ (k : ℕ). paste d at (replicate n v) k) (sym (add-one j))
-
 -- a run of one is one store
-pub run-one : (d : List ℕ) (at v : ℕ) → at < length d → set d at v ≡ paste d at (replicate 1 v) 1
-run-one d at v h =
+pub run-one : (ls : List ℕ) (at n v : ℕ) → at + n ≤ length ls → n ≡ 1 → set ls at v ≡ paste ls at (replicate n v) n
+run-one ls at n v h e =
     let z : at + 0 ≡ at = omega arith in
-    ap (λ (k : ℕ). set d k v) (sym z) ∙ run_more d at 1 v 0 d (omega arith) (omega arith) (paste-zero d at (replicate 1 v))
+    rw e
+    (ap (λ (k : ℕ). set ls k v) (sym z) ∙ ap (λ (l : List ℕ). set l (at + 0) v) (paste_none ls at (replicate 0 v))
+    ∙ fill_from_more ls at 0 v (omega arith))
 
--- a run over all the lengths
-pub run-all : (ls : List ℕ) (n v : ℕ) → length ls ≡ n → paste ls 0 (replicate n v) n ≡ replicate n v
-run-all ls n v e =
-    let r = length-replicate n v in
-    let l = run_length ls 0 n v (omega arith) in
-    sym (take_all (0 + n) (paste ls 0 (replicate n v) n) (omega arith)) ∙ run-front ls 0 n v (omega arith)
+-- a run that is filled in is put there
+pub run_filled : (ls : List ℕ) (at n v k : ℕ) {ys after : List ℕ} → at + n ≤ length ls → k ≡ n
+    → ys ≡ replicate (length (take k (drop at ls))) v → after ≡ put_mid at k ls ys → after ≡ paste ls at (replicate n v) n
+run_filled ls at n v k {ys} h e f g =
+    let l : length (take k (drop at ls)) ≡ n = length-take-le k (drop at ls) (simp length-drop (omega arith)) ∙ e in
+    g
+    ∙ put_mid-paste at k ls ys (replicate n v) n (f ∙ ap (λ (m : ℕ). replicate m v) l) (sym e) (sym (length-replicate n v))
 
 -- no lengths yet
 pub none-long : {ls : List ℕ} → ls ≡ replicate max_symbols 0 → length ls ≡ max_symbols

@@ -12,12 +12,12 @@ use Rattle.crn_format.specs.Reading.{a_number, answer, refuse, got, refused, run
 use Rattle.crn_format.specs.Tables.{length_order, sent_lengths, checked, coded, counted, table}
 use Rattle.crn_format.proofs.Steps.{answered, at_mark, at-refuse, go_on, stop}
 use Rattle.crn_symbol_codec.specs.Cursors.{place}
-use Rattle.crn_symbol_codec.specs.Taking.{Takes}
+use Rattle.std.specs.Prelude.{Ok, Err}
+use Rattle.crn_format.specs.declared.Fault.{Fault}
+use Rattle.crn_symbol_codec.specs.Telling.{fault}
 use Rattle.crn_symbol_codec.specs.declared.Cursor.{Cursor}
-use Rattle.crn_symbol_codec.specs.declared.Taken.{Taken}
-use Rattle.crn_symbol_codec.specs.declared.Taken.TheVariants.{Value, Failed}
-use Rattle.crn_symbol_codec.proofs.Serving.{taken-value, number-refused}
 use Rattle.crn_code_tables.specs.Parts.{all_runs}
+use Rattle.crn_code_tables.proofs.Telling.{Serves, served_on, served-fault}
 
 -- ---- whether lengths make a code
 
@@ -52,46 +52,45 @@ module _ (seg : List ℕ) (count n : ℕ) (w : Place) where
 
 -- ---- from the number of lengths of the code of lengths on
 
-module _ {seg : List ℕ} (count b : ℕ) {c : Cursor} {r : Taken} (t : Takes seg (a_number 5) c r) where
-  pub counted-failed : {k : ℕ} → r ≡ Failed k → run (from_bits seg) (counted count) (spot (place c) b) ≡ refused 8
-      (spot (place c) (place c))
+module _ {seg : List ℕ} (count b : ℕ) {c : Cursor} where
+  pub counted-failed : {e : Fault} → Serves seg (a_number 5) c (Err e) → run (from_bits seg) (counted count) (spot (place c) b) ≡ fault e
   unfolding counted
-  counted-failed e = at_mark seg _ (place c) b ∙ number-refused t _ _ e
+  counted-failed t = at_mark seg _ (place c) b ∙ served-fault _ _ t
 
-  module _ {n : ℕ} {d : Cursor} (e : r ≡ Value n d) where
+  module _ {n : ℕ} {d : Cursor} (t : Serves seg (a_number 5) c (Ok (n, d))) where
     pub counted_none : n ≡ 0 → run (from_bits seg) (counted count) (spot (place c) b) ≡ refused 6 (spot (place c) (place c))
     unfolding counted
-    counted_none h = at_mark seg _ (place c) b ∙ taken-value t _ _ e ∙ simp (eq-eqb _ _ h) (at-refuse seg 6 (place d) (place c))
+    counted_none h = at_mark seg _ (place c) b ∙ served_on _ _ t ∙ simp (eq-eqb _ _ h) (at-refuse seg 6 (place d) (place c))
 
     pub counted-many : (n ≡ 0 → ⊥) → 21 < n → run (from_bits seg) (counted count) (spot (place c) b) ≡ refused 6 (spot (place c) (place c))
     unfolding counted
-    counted-many h g = at_mark seg _ (place c) b ∙ taken-value t _ _ e ∙ simp (ne_eqb _ _ h, lt-ltb _ _ g)
+    counted-many h g = at_mark seg _ (place c) b ∙ served_on _ _ t ∙ simp (ne_eqb _ _ h, lt-ltb _ _ g)
         (at-refuse seg 6 (place d) (place c))
 
     pub counted-some : (n ≡ 0 → ⊥) → n ≤ 21
         → run (from_bits seg) (counted count) (spot (place c) b) ≡ run (from_bits seg) (coded count n) (spot (place d) (place c))
     unfolding counted
-    counted-some h g = at_mark seg _ (place c) b ∙ taken-value t _ _ e ∙ simp (ne_eqb _ _ h, le-ltb _ _ g)
+    counted-some h g = at_mark seg _ (place c) b ∙ served_on _ _ t ∙ simp (ne_eqb _ _ h, le-ltb _ _ g)
 
 -- ---- the whole table
 
-module _ {seg : List ℕ} (b : ℕ) {c : Cursor} {r : Taken} (t : Takes seg (a_number 14) c r) where
-  pub table-failed : {k : ℕ} → r ≡ Failed k → run (from_bits seg) table (spot (place c) b) ≡ refused 8 (spot (place c) (place c))
+module _ {seg : List ℕ} (b : ℕ) {c : Cursor} where
+  pub table-failed : {e : Fault} → Serves seg (a_number 14) c (Err e) → run (from_bits seg) table (spot (place c) b) ≡ fault e
   unfolding table
-  table-failed e = at_mark seg _ (place c) b ∙ number-refused t _ _ e
+  table-failed t = at_mark seg _ (place c) b ∙ served-fault _ _ t
 
-  module _ {count : ℕ} {d : Cursor} (e : r ≡ Value count d) where
+  module _ {count : ℕ} {d : Cursor} (t : Serves seg (a_number 14) c (Ok (count, d))) where
     pub reads_none : count ≡ 0 → run (from_bits seg) table (spot (place c) b) ≡ got [] (spot (place d) (place c))
     unfolding table
-    reads_none h = at_mark seg _ (place c) b ∙ taken-value t _ _ e ∙ simp (eq-eqb _ _ h) (answered _ _ _)
+    reads_none h = at_mark seg _ (place c) b ∙ served_on _ _ t ∙ simp (eq-eqb _ _ h) (answered _ _ _)
 
     pub table-many : (count ≡ 0 → ⊥) → max_symbols < count → run (from_bits seg) table (spot (place c) b) ≡ refused 6
         (spot (place c) (place c))
     unfolding table
-    table-many h g = at_mark seg _ (place c) b ∙ taken-value t _ _ e ∙ simp (ne_eqb _ _ h, lt-ltb _ _ g)
+    table-many h g = at_mark seg _ (place c) b ∙ served_on _ _ t ∙ simp (ne_eqb _ _ h, lt-ltb _ _ g)
         (at-refuse seg 6 (place d) (place c))
 
     pub table-some : (count ≡ 0 → ⊥) → count ≤ max_symbols
         → run (from_bits seg) table (spot (place c) b) ≡ run (from_bits seg) (counted count) (spot (place d) (place c))
     unfolding table
-    table-some h g = at_mark seg _ (place c) b ∙ taken-value t _ _ e ∙ simp (ne_eqb _ _ h, le-ltb _ _ g)
+    table-some h g = at_mark seg _ (place c) b ∙ served_on _ _ t ∙ simp (ne_eqb _ _ h, le-ltb _ _ g)

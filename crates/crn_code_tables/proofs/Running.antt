@@ -2,29 +2,25 @@
 use Prim.Native.Nat.{ℕ, zero, suc, ◌+◌, ◌-◌, ◌<◌, ◌≤◌}
 use mathlib.Core.Bool.{Bool, false}
 use mathlib.Core.List.{List, ◌++◌}
-use mathlib.Core.Path.{◌≡◌, refl, ap, ◌∙◌}
+use mathlib.Core.Path.{◌≡◌, refl, sym, ap, ◌∙◌}
 use native.Mathlib.Decide.{ℕ_discrete}
 use native.Mathlib.Omega.{arith}
 use lib.ListN.{length, replicate}
 use lib.Dec.{leb, ltb}
 use borrow.Author.Tests.{eq-eqb, ne_eqb, lt-leb, le-leb, lt-ltb, le-ltb}
 use Rattle.crn_format.specs.Choice.{pick}
-use Rattle.crn_format.specs.Reading.{a_symbol, a_number, Reading, answer, refuse, draw, number, next, got, refused, run, from_bits, Place, spot}
+use Rattle.crn_format.specs.Reading.{a_symbol, a_number, Reading, answer, refuse, number, next, got, refused, run, from_bits, Place, spot}
 use Rattle.crn_format.specs.Tables.{again, run_of, lengths_from}
 use Rattle.crn_format.proofs.Steps.{answered, at_mark, at-refuse, go_on, stop}
 use Rattle.crn_symbol_codec.specs.Cursors.{place}
-use Rattle.crn_symbol_codec.specs.Taking.{Takes}
+use Rattle.std.specs.Prelude.{Ok, Err}
+use Rattle.crn_format.specs.declared.Fault.{Fault}
+use Rattle.crn_symbol_codec.specs.Telling.{fault}
 use Rattle.crn_symbol_codec.specs.declared.Cursor.{Cursor}
-use Rattle.crn_symbol_codec.specs.declared.Taken.{Taken}
-use Rattle.crn_symbol_codec.specs.declared.Taken.TheVariants.{Value, Failed}
-use Rattle.crn_symbol_codec.proofs.Serving.{taken-value, taken-failed, number-refused}
-use Rattle.crn_code_tables.specs.Parts.{extra_of, least_of}
+use Rattle.crn_code_tables.specs.Parts.{extra_of, least_of, drawn_run}
+use Rattle.crn_code_tables.proofs.Telling.{Serves, served_on, served-fault}
 
 -- ---- a run
-
--- from its length symbol in the code cl on
-abbrev pub drawn_run : List ℕ → ℕ → Reading (ℕ × ℕ)
-drawn_run cl last = draw cl (run_of last)
 
 -- of a length symbol above 16, x more than at least: zeros, or the last length again
 longer_by : Bool → ℕ → ℕ → ℕ → Reading (ℕ × ℕ)
@@ -46,38 +42,41 @@ long-run last s h = go (ℕ_discrete s 17) (ℕ_discrete s 18) (ℕ_discrete s 1
     go (no a) (no b) (yes c) = rw c refl
     go (no a) (no b) (no c) = simp (above, ne_eqb s 17 a, ne_eqb s 18 b, ne_eqb s 19 c, lt-leb s 18 (omega arith))
 
-module _ {seg cl : List ℕ} (last : ℕ) {c : Cursor} {r : Taken} (t : Takes seg (a_symbol cl) c r) (b : ℕ) where
-  pub symbol-failed : {k : ℕ} → r ≡ Failed k → run (from_bits seg) (drawn_run cl last) (spot (place c) b) ≡ refused k
-      (spot (place c) (place c))
-  symbol-failed e = taken-failed t _ b e
+module _ {seg cl : List ℕ} (last : ℕ) {c : Cursor} (b : ℕ) where
+  pub symbol-failed : {e : Fault} → Serves seg (a_symbol cl) c (Err e)
+      → run (from_bits seg) (drawn_run cl last) (spot (place c) b) ≡ fault e
+  symbol-failed t = served-fault _ b t
 
-  module _ {s : ℕ} {d : Cursor} (e : r ≡ Value s d) where
+  module _ {s : ℕ} {d : Cursor} (t : Serves seg (a_symbol cl) c (Ok (s, d))) where
     pub one-run : s ≤ 16 → run (from_bits seg) (drawn_run cl last) (spot (place c) b) ≡ got (1, s) (spot (place d) b)
     unfolding run_of
-    one-run h = taken-value t _ b e ∙ simp (le-leb _ _ h) (answered _ _ _)
+    one-run h = served_on _ b t ∙ simp (le-leb _ _ h) (answered _ _ _)
 
-    module _ {q : Taken} (u : Takes seg (a_number (extra_of s)) d q) (h : 16 < s) where
-      its_number : run (from_bits seg) (drawn_run cl last) (spot (place c) b) ≡ run (from_bits seg) (number (extra_of s) (longer last s))
+    module _ (h : 16 < s) {n : ℕ} (is : n ≡ extra_of s) where
+      its_number : run (from_bits seg) (drawn_run cl last) (spot (place c) b) ≡ run (from_bits seg) (number n (longer last s))
           (spot (place d) b)
-      its_number = taken-value t _ b e ∙ ap (λ (m : Reading (ℕ × ℕ)). run (from_bits seg) m (spot (place d) b)) (long-run last s h)
+      its_number =
+          served_on _ b t
+          ∙ ap (λ (m : Reading (ℕ × ℕ)). run (from_bits seg) m (spot (place d) b))
+          (long-run last s h ∙ ap (λ (k : ℕ). number k (longer last s)) (sym is))
 
-      pub number-failed : {k : ℕ} → q ≡ Failed k → run (from_bits seg) (drawn_run cl last) (spot (place c) b) ≡ refused 8
-          (spot (place d) (place d))
-      number-failed f = its_number ∙ number-refused u _ b f
+      pub number-failed : {e : Fault} → Serves seg (a_number n) d (Err e)
+          → run (from_bits seg) (drawn_run cl last) (spot (place c) b) ≡ fault e
+      number-failed u = its_number ∙ served-fault _ b u
 
-      module _ {x : ℕ} {g : Cursor} (f : q ≡ Value x g) where
-        pub zeros-run : s ≤ 18 → run (from_bits seg) (drawn_run cl last) (spot (place c) b) ≡ got (least_of s + x, 0) (spot (place g) b)
+      module _ {x : ℕ} {g : Cursor} (u : Serves seg (a_number n) d (Ok (x, g))) {least : ℕ} (at_least : least ≡ least_of s) where
+        pub zeros-run : s ≤ 18 → run (from_bits seg) (drawn_run cl last) (spot (place c) b) ≡ got (least + x, 0) (spot (place g) b)
         unfolding longer_by
-        zeros-run l = its_number ∙ taken-value u _ b f ∙ simp (le-leb s 18 l) (answered _ _ _)
+        zeros-run l = its_number ∙ served_on _ b u ∙ rw at_least (simp (le-leb s 18 l) (answered _ _ _))
 
         pub again-none : 18 < s → last ≡ 0 → run (from_bits seg) (drawn_run cl last) (spot (place c) b) ≡ refused 6 (spot b b)
         unfolding again longer_by
-        again-none l z = its_number ∙ taken-value u _ b f ∙ simp (lt-leb s 18 l, eq-eqb last 0 z) (at-refuse seg 6 (place g) b)
+        again-none l z = its_number ∙ served_on _ b u ∙ simp (lt-leb s 18 l, eq-eqb last 0 z) (at-refuse seg 6 (place g) b)
 
-        pub again-run : 18 < s → (last ≡ 0 → ⊥) → run (from_bits seg) (drawn_run cl last) (spot (place c) b) ≡ got (least_of s + x, last)
+        pub again-run : 18 < s → (last ≡ 0 → ⊥) → run (from_bits seg) (drawn_run cl last) (spot (place c) b) ≡ got (least + x, last)
             (spot (place g) b)
         unfolding again longer_by
-        again-run l z = its_number ∙ taken-value u _ b f ∙ simp (lt-leb s 18 l, ne_eqb last 0 z) (answered _ _ _)
+        again-run l z = its_number ∙ served_on _ b u ∙ rw at_least (simp (lt-leb s 18 l, ne_eqb last 0 z) (answered _ _ _))
 
 -- ---- a turn
 

@@ -6,18 +6,13 @@ ghost use Rattle.crn_format.specs.Limits.{max_symbols, too_long};
 ghost use Rattle.crn_symbol_codec.specs.Cursors.{Holds};
 ghost use Rattle.crn_code_tables.specs.Receiving.{Receives};
 
+use crn_format::Fault;
 use crn_symbol_codec::Cursor;
 
 mod parts;
 
-// A table received: refusal 0, the place after it, the cursor there and the count of symbols; or the refusal, the bit that it names, the cursor as it was and 0.
-#[derive(Clone, Copy)]
-pub struct Received {
-    pub refusal: u32,
-    pub at: usize,
-    pub cursor: Cursor,
-    pub count: u32,
-}
+// How many symbols a table has, and the cursor after it; or the refusal and the bit that it names.
+pub type Received = Result<(u32, Cursor), Fault>;
 
 // A code table as it is sent (document 01, Codes), into lengths that are all zero; after a refusal they are so again.
 pub fn receive(seg: &[u8], c: Cursor, lengths: &mut [u8; 8192]) -> Received
@@ -26,10 +21,9 @@ pub fn receive(seg: &[u8], c: Cursor, lengths: &mut [u8; 8192]) -> Received
     requires lengths_zero { lengths.old ≡ replicate max_symbols 0 }
     ensures { Receives seg.now c result lengths.new }
 {
-    let r = parts::sent_table(seg, c, lengths);
-    if r.refusal != 0 {
-        parts::clear(lengths);
-        return r;
+    let received = parts::sent_table(seg, c, lengths);
+    if received.is_err() {
+        lengths.fill(0);
     }
-    r
+    received
 }

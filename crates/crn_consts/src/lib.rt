@@ -6,7 +6,7 @@ ghost use Rattle.std.specs.Prelude.{◌≡◌, ◌<◌, ◌≤◌, get_or};
 ghost use Rattle.crn_format.specs.Level.{tile_counts};
 ghost use Rattle.crn_format.specs.Palettes.{from_linear};
 ghost use Rattle.crn_format.specs.Tables.{length_order};
-ghost use Rattle.crn_consts.specs.Entries.{Entry, Pair};
+ghost use Rattle.crn_consts.specs.Entries.{Entry};
 ghost use Rattle.crn_consts.specs.Tiles.{Tiles};
 ghost use Rattle.crn_consts.specs.AlphaDeltas.{AlphaDeltas, AllDeltas};
 
@@ -23,21 +23,14 @@ pub struct Deltas {
 fn entry(table: &[u8], at: usize) -> u32
     ensures { Entry table.now at result }
 {
-    if at < table.len() {
-        table[at] as u32
-    } else {
-        0
-    }
+    u32::from(table.get(at).copied().unwrap_or(0))
 }
 
 // How many tiles a chunk of this encoding has.
 pub fn tile_count(encoding: u32) -> u32
     ensures { (result ≡ get_or tile_counts encoding 0) × (result ≤ 4) }
 {
-    if encoding < 8 {
-        return (tables::CHUNK_ENCODING_NUM_TILES >> (4 * encoding)) % 16;
-    }
-    0
+    entry(&tables::CHUNK_ENCODING_NUM_TILES, encoding as usize)
 }
 
 // The tiles at the positions of a chunk, left-top, right-top, left-bottom, right-bottom: two bits each, the first lowest.
@@ -45,9 +38,7 @@ pub fn tiles(encoding: u32) -> u32
     requires { encoding < 8 }
     ensures { Tiles encoding result }
 {
-    let upper = (tables::CHUNK_ENCODING_UPPER_TILES >> (4 * encoding)) % 16;
-    let lower = (tables::CHUNK_ENCODING_LOWER_TILES >> (4 * encoding)) % 16;
-    upper + 16 * lower
+    entry(&tables::CHUNK_ENCODING_TILES, encoding as usize)
 }
 
 // How a block writes a selector's value. The value goes from 0, the block's first end, to top, its second; a block numbers the two ends
@@ -71,16 +62,6 @@ pub fn length_symbol(i: usize) -> usize
     entry(&tables::MOST_PROBABLE_CODELENGTH_CODES, i) as usize
 }
 
-// The pair at a place of a table of pairs, 0 and 0 past its end.
-fn pair(table: &[u8], at: u32) -> Deltas
-    ensures { Pair table.now at result }
-{
-    let start = 2 * at as usize;
-    let first = entry(table, start);
-    let second = entry(table, start + 1);
-    Deltas { first, second }
-}
-
 // The pairs of all alpha selector symbols. A constant is written out anew wherever it is named, so a caller keeps them for its many symbols.
 pub fn alpha_delta_pairs() -> [u8; 450]
     ensures { AllDeltas result }
@@ -93,5 +74,9 @@ pub fn alpha_deltas(pairs: &[u8], symbol: u32) -> Deltas
     requires { AllDeltas pairs.now }
     ensures { AlphaDeltas symbol result }
 {
-    pair(pairs, symbol)
+    let start = 2 * symbol as usize;
+    Deltas {
+        first: entry(pairs, start),
+        second: entry(pairs, start + 1),
+    }
 }

@@ -1,17 +1,23 @@
-// The tables themselves, under their names in the Rust.
+// The tables themselves, under their names in the Rust. A static is looked up in where it stands; a constant is written out anew wherever
+// it is named.
 
-// How many tiles a chunk has, for each encoding: four bits each, encoding 0 lowest. (An array that is looked up in is built anew on the
-// stack at each call.)
-pub const CHUNK_ENCODING_NUM_TILES: u32 = 0x43333221;
+// How many tiles a chunk has, for each encoding.
+pub static CHUNK_ENCODING_NUM_TILES: [u8; 8] = [1, 2, 2, 3, 3, 3, 3, 4];
 
-// The tiles at a chunk's two upper positions, left and right, and at its two lower ones, for each encoding: two bits each, so four for an encoding, encoding 0
-// lowest. (A processor has numbers of 32 bits sooner at hand than one of 64.)
-pub const CHUNK_ENCODING_UPPER_TILES: u32 = 0x41490400;
-
-pub const CHUNK_ENCODING_LOWER_TILES: u32 = 0xe2809450;
+// The tiles at a chunk's four positions, for each encoding: two bits each, left-top lowest, then right-top, left-bottom and right-bottom.
+pub static CHUNK_ENCODING_TILES: [u8; 8] = [
+    0b00_00_00_00,
+    0b01_01_00_00,
+    0b01_00_01_00,
+    0b10_01_00_00,
+    0b00_00_10_01,
+    0b10_00_01_00,
+    0b00_10_00_01,
+    0b11_10_01_00,
+];
 
 // The symbols of the code of lengths, in the order in which their own lengths are sent.
-pub const MOST_PROBABLE_CODELENGTH_CODES: [u8; 21] = [
+pub static MOST_PROBABLE_CODELENGTH_CODES: [u8; 21] = [
     17, 18, 19, 20, 0, 8, 7, 9, 6, 10, 5, 11, 4, 12, 3, 13, 2, 14, 1, 15, 16,
 ];
 

@@ -1,6 +1,6 @@
 -- Decoder tables one after another: what is asked of a record's tables, and one table more.
 use Prim.Native.Nat.{ℕ, ◌+◌, ◌*◌, ◌≤◌, ◌<◌}
-use mathlib.Core.Bool.{Bool, true, false, false≢true, ◌&&◌}
+use mathlib.Core.Bool.{Bool, true, false, false≢true, not, ◌&&◌, ◌||◌}
 use mathlib.Core.List.{List, ◌++◌}
 use mathlib.Core.Path.{◌≡◌, refl, sym}
 use native.Mathlib.Omega.{arith}
@@ -8,7 +8,7 @@ use native.Mathlib.Decide.{ℕ_discrete}
 use lib.ListN.{length, take}
 use lib.Dec.{leb, eqb}
 use borrow.Author.Tests.{leb-true, eqb-true}
-use Rattle.crn_format.specs.Choice.{either}
+use Rattle.crn_format.specs.Choice.{pick, either}
 use Rattle.crn_format.specs.Limits.{max_symbols}
 use Rattle.crn_format.specs.Codes.{all_fit, is_code}
 use Rattle.crn_format.specs.Grid.{nth_list}
@@ -17,8 +17,10 @@ use Rattle.crn_format.specs.declared.Table.{Table}
 use Rattle.crn_format.specs.declared.Tables.{Tables}
 use Rattle.crn_symbol_codec.specs.Decoders.{Decodes}
 use Rattle.crn_decoders.specs.declared.decoders.Sizes.{Sizes}
+use Rattle.crn_formats.specs.Records.{table_by, tables_lent}
 use Rattle.crn_formats.specs.declared.records.Counts.{Counts}
-use Rattle.crn_decoders.specs.Tables.{counts_of, Few, Long, Fair, AllFair, Able, CodedTo, codes_by, tables_in}
+use Rattle.crn_formats.specs.declared.records.CodeTables.{CodeTables}
+use Rattle.crn_decoders.specs.Tables.{counts_of, Few, Fair, AllFair, Able, CodedTo, codes_by, tables_in}
 use Rattle.crn_format.proofs.Choices.{both_hold, and_hold}
 use Rattle.crn_chunks.specs.Meaning.{part}
 use Rattle.crn_blocks.proofs.Places.{further}
@@ -74,27 +76,25 @@ either-fits : (ls : List ℕ) (n : ℕ) (none : Bool) → eqb n 0 ≡ none → e
 either-fits ls n true e h = none_fit ls n (eqb-true n 0 e)
 either-fits ls n false e h = (both_hold (all_fit (take n ls) (length (take n ls))) _ h).0
 
-pub fair : (t : Table) (room : ℕ) → max_symbols ≤ length t.lengths → table_holds t ≡ true → t.count ≤ room → Fair t.lengths t.count room
-fair t room long h fits =
+pub fair : (t : Table) (room : ℕ) → table_holds t ≡ true → t.count ≤ room → Fair t.lengths t.count room
+fair t room h fits =
     let p = both_hold (leb t.count max_symbols) _ h in
     let few : t.count ≤ max_symbols = leb-true t.count max_symbols p.0 in
-    record { inside = omega arith; few = few; short = either-fits t.lengths t.count (eqb t.count 0) refl p.1; fits = fits }
+    record { few = few; short = either-fits t.lengths t.count (eqb t.count 0) refl p.1; fits = fits }
 
-pub all_fair : (t : Tables) (room : ℕ) → Long t → tables_hold t ≡ true → Few (counts_of t) room
-    → AllFair (counts_of t) t.chunk_encoding.lengths t.color_endpoint_delta.lengths t.color_selector_delta.lengths
-    t.alpha_endpoint_delta.lengths t.alpha_selector_delta.lengths room
+pub all_fair : (t : CodeTables) (room : ℕ) → tables_hold (tables_lent t) ≡ true → Few t.counts room → AllFair t room
 unfolding tables_hold
-all_fair t room long h few =
-    let p0 = both_hold (table_holds t.chunk_encoding) _ h in
-    let p1 = both_hold (table_holds t.color_endpoint_delta) _ p0.1 in
-    let p2 = both_hold (table_holds t.color_selector_delta) _ p1.1 in
-    let p3 = both_hold (table_holds t.alpha_endpoint_delta) _ p2.1 in
+all_fair t room h few =
+    let p0 = both_hold (table_holds (table_by t.counts.chunk t.chunk.now)) _ h in
+    let p1 = both_hold (table_holds (table_by t.counts.color_ends t.color_ends.now)) _ p0.1 in
+    let p2 = both_hold (table_holds (table_by t.counts.color_sels t.color_sels.now)) _ p1.1 in
+    let p3 = both_hold (table_holds (table_by t.counts.alpha_ends t.alpha_ends.now)) _ p2.1 in
     record {
-      first = fair t.chunk_encoding room long.chunk p0.0 few.chunk;
-      color_e = fair t.color_endpoint_delta room long.color_ends p1.0 few.color_ends;
-      color_s = fair t.color_selector_delta room long.color_sels p2.0 few.color_sels;
-      alpha_e = fair t.alpha_endpoint_delta room long.alpha_ends p3.0 few.alpha_ends;
-      alpha_s = fair t.alpha_selector_delta room long.alpha_sels p3.1 few.alpha_sels;
+      first = fair (table_by t.counts.chunk t.chunk.now) room p0.0 few.chunk;
+      color_e = fair (table_by t.counts.color_ends t.color_ends.now) room p1.0 few.color_ends;
+      color_s = fair (table_by t.counts.color_sels t.color_sels.now) room p2.0 few.color_sels;
+      alpha_e = fair (table_by t.counts.alpha_ends t.alpha_ends.now) room p3.0 few.alpha_ends;
+      alpha_s = fair (table_by t.counts.alpha_sels t.alpha_sels.now) room p3.1 few.alpha_sels;
     }
 
 -- the code's test of five counts
@@ -132,38 +132,39 @@ at_most t h =
 
 -- ---- all tables of a format
 
-module _ (c : Counts) (chunk color_ends color_sels alpha_ends alpha_sels : List ℕ) (s : Sizes) {l₀ s₀ l₁ s₁ : List ℕ}
-    (first : (cs : ℕ → List ℕ) → cs 0 ≡ take c.chunk chunk → CodedTo cs 0 s l₀ s₀ → CodedTo cs 1 s l₁ s₁) where
-  begun : (alpha : Bool) → CodedTo (codes_by alpha c chunk color_ends color_sels alpha_ends alpha_sels) 1 s l₁ s₁
+-- the alpha plane's tables, where there is one, and then the colour plane's
+module _ (c : Counts) (chunk color_ends color_sels alpha_ends alpha_sels : List ℕ) (s : Sizes) where
+  abbrev cs_of : Bool → ℕ → List ℕ
+  cs_of alpha = codes_by alpha c chunk color_ends color_sels alpha_ends alpha_sels
+
+  pub first-made : (alpha : Bool) {l₀ s₀ l₁ s₁ : List ℕ}
+      → ((cs : ℕ → List ℕ) → cs 0 ≡ take c.chunk chunk → CodedTo cs 0 s l₀ s₀ → CodedTo cs 1 s l₁ s₁) → CodedTo (cs_of alpha) 1 s l₁ s₁
   unfolding codes_by nth_list
-  begun alpha = first (codes_by alpha c chunk color_ends color_sels alpha_ends alpha_sels) refl
-      (record { each = λ k h. absurd (omega arith) })
+  first-made alpha first = first (cs_of alpha) refl (record { each = λ k h. absurd (omega arith) })
 
-  pub color-only : {l₂ s₂ : List ℕ} → ((cs : ℕ → List ℕ) → cs 1 ≡ take c.color_ends color_ends → cs 2 ≡ take c.color_sels color_sels →
-      CodedTo cs 1 s l₁ s₁ → CodedTo cs 3 s l₂ s₂)
-      → (color alpha : Bool) → alpha ≡ false → CodedTo (codes_by alpha c chunk color_ends color_sels alpha_ends alpha_sels)
-      (tables_in color alpha) s l₂ s₂
-  color-only more color true e = absurd (false≢true (sym e))
-  color-only more true false e = unfold codes_by nth_list in more (codes_by false c chunk color_ends color_sels alpha_ends alpha_sels) refl
-      refl (begun false)
-  color-only more false false e = unfold codes_by nth_list in more (codes_by false c chunk color_ends color_sels alpha_ends alpha_sels) refl
-      refl (begun false)
+  pub alpha-made : {alpha : Bool} {l₁ s₁ l₂ s₂ : List ℕ} → alpha ≡ true → CodedTo (cs_of alpha) 1 s l₁ s₁
+      → ((cs : ℕ → List ℕ) → cs 1 ≡ take c.alpha_ends alpha_ends → cs 2 ≡ take c.alpha_sels alpha_sels → CodedTo cs 1 s l₁ s₁ → CodedTo cs
+      3 s l₂ s₂)
+      → CodedTo (cs_of alpha) (pick alpha 3 1) s l₂ s₂
+  unfolding codes_by nth_list
+  alpha-made is before more = rw is (more (cs_of true) refl refl (rw is at before))
 
-  module _ {l₂ s₂ : List ℕ} (more : (cs : ℕ → List ℕ) → cs 1 ≡ take c.alpha_ends alpha_ends → cs 2 ≡ take c.alpha_sels alpha_sels → CodedTo
-      cs 1 s l₁ s₁ → CodedTo cs 3 s l₂ s₂) where
-    pub alpha-only : (color alpha : Bool) → alpha ≡ true → color ≡ false → CodedTo
-        (codes_by alpha c chunk color_ends color_sels alpha_ends alpha_sels) (tables_in color alpha) s l₂ s₂
-    alpha-only color false e f = absurd (false≢true e)
-    alpha-only true true e f = absurd (false≢true (sym f))
-    alpha-only false true e f = unfold codes_by nth_list in more (codes_by true c chunk color_ends color_sels alpha_ends alpha_sels) refl
-        refl (begun true)
+  pub color-made : (alpha : Bool) {k : ℕ} {l₁ s₁ l₂ s₂ : List ℕ} → k ≡ pick alpha 3 1 → CodedTo (cs_of alpha) (pick alpha 3 1) s l₁ s₁
+      → ((cs : ℕ → List ℕ) → cs k ≡ take c.color_ends color_ends → cs (k + 1) ≡ take c.color_sels color_sels → CodedTo cs k s l₁ s₁
+      → CodedTo cs (k + 2) s l₂ s₂)
+      → CodedTo (cs_of alpha) (pick alpha 5 3) s l₂ s₂
+  unfolding codes_by nth_list
+  color-made true is before more = (rw is at more) (cs_of true) refl refl before
+  color-made false is before more = (rw is at more) (cs_of false) refl refl before
 
-    pub both-planes : {l₃ s₃ : List ℕ}
-        → ((cs : ℕ → List ℕ) → cs 3 ≡ take c.color_ends color_ends → cs 4 ≡ take c.color_sels color_sels → CodedTo cs 3 s l₂ s₂ → CodedTo cs
-        5 s l₃ s₃)
-        → (color alpha : Bool) → alpha ≡ true → color ≡ true → CodedTo (codes_by alpha c chunk color_ends color_sels alpha_ends alpha_sels)
-        (tables_in color alpha) s l₃ s₃
-    both-planes last color false e f = absurd (false≢true e)
-    both-planes last false true e f = absurd (false≢true f)
-    both-planes last true true e f = unfold codes_by nth_list in last (codes_by true c chunk color_ends color_sels alpha_ends alpha_sels)
-        refl refl (more (codes_by true c chunk color_ends color_sels alpha_ends alpha_sels) refl refl (begun true))
+-- how many there then are
+pub colored : (color alpha : Bool) → (color || not alpha) ≡ true → pick alpha 5 3 ≡ tables_in color alpha
+colored true true e = refl
+colored true false e = refl
+colored false true e = absurd (false≢true e)
+colored false false e = refl
+
+pub alpha-alone : (color alpha : Bool) → (color || not alpha) ≡ false → pick alpha 3 1 ≡ tables_in color alpha
+alpha-alone true alpha e = absurd (false≢true (sym e))
+alpha-alone false true e = refl
+alpha-alone false false e = absurd (false≢true (sym e))

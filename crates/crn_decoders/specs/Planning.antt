@@ -1,7 +1,8 @@
 -- The planes of a format, as the code goes over them.
 use Rattle.std.specs.Prelude.{ℕ, ◌+◌, Bool, true, false, eqb}
 use Rattle.crn_format.specs.Choice.{pick}
-use Rattle.crn_format.specs.Header.{Kind, kind_of, has_color, has_alpha, block_bytes}
+use Rattle.crn_format.specs.declared.Kind.{Kind}
+use Rattle.crn_format.specs.Header.{kind_of, has_color, has_alpha, block_bytes}
 use Rattle.crn_format.specs.declared.Part.{Part}
 use Rattle.crn_format.specs.declared.Header.{Header}
 use Rattle.crn_chunks.specs.declared.Side.{Side}

@@ -4,7 +4,8 @@ use mathlib.Core.Bool.{Bool}
 use mathlib.Core.List.{List}
 use mathlib.Core.Path.{◌≡◌, subst, ◌∙◌}
 use lib.ListN.{length}
-use Rattle.crn_format.specs.Header.{Kind, kind_of, has_color, has_alpha}
+use Rattle.crn_format.specs.declared.Kind.{Kind}
+use Rattle.crn_format.specs.Header.{kind_of, has_color, has_alpha}
 use Rattle.crn_format.specs.Opening.{Palettes}
 use Rattle.crn_format.specs.Unpacking.{Unpacking, drawn_level}
 use Rattle.crn_format.specs.declared.Record.{Record}
@@ -14,14 +15,13 @@ use Rattle.crn_chunks.specs.declared.Planes.{Planes}
 use Rattle.crn_unpacker.specs.Going.{given, Fit}
 use Rattle.crn_decoders.specs.declared.decoders.Sizes.{Sizes}
 use Rattle.crn_formats.specs.declared.records.Counts.{Counts}
-use Rattle.crn_drawing.specs.declared.Unpacked.{Unpacked}
 use Rattle.crn_decoders.specs.Tables.{Able, counts_of, CodedTo, codes_by, tables_in}
 use Rattle.crn_decoders.specs.Planning.{planes_by, planes_for}
-use Rattle.crn_drawing.specs.Unpacks.{Unpacks}
+use Rattle.crn_drawing.specs.Unpacks.{Drawn, Unpacks}
 use Rattle.crn_drawing.specs.Levels.{Checked, codes_in, tables_for, ended_by}
 use Rattle.crn_formats.specs.Lent.{lent_of}
 use Rattle.crn_formats.proofs.Limited.{Limited, limited}
-use Rattle.crn_drawing.proofs.Formats.{chunk-code, planes_by_lem, shades_by, bytes_by, served_by}
+use Rattle.crn_drawing.proofs.Formats.{chunk-code, as_kind, served_by}
 use Rattle.crn_drawing.proofs.Reaching.{lent, reach_by}
 
 abbrev kind_in : Record → Kind
@@ -54,7 +54,7 @@ module _ (r : Record) (s : Sizes) (lookup sorted seg ends sels alpha_ends alpha_
       rw e (record {
         short = checked.short;
         served = served_by r s lookup sorted limits able (kind_in r) limits.known ready;
-        bytes = checked.bytes ∙ bytes_by r s (kind_in r) limits.known;
+        bytes = checked.bytes ∙ (as_kind r s (kind_in r) limits.known).bytes;
         room = checked.room;
         reach = reach_by r.header s palettes (kind_in r) limits.known (lent r.header palettes checked.palettes);
       })
@@ -64,10 +64,9 @@ module _ (r : Record) (s : Sizes) (lookup sorted seg ends sels alpha_ends alpha_
       drawn_level r seg palettes g budget d
   unfolding drawn_level
   same-level budget d = rw (
-    shades_by r s palettes (kind_in r) limits.known,
-    planes_by_lem r s (kind_in r) limits.known,
-    chunk-code
-        (has_alpha (kind_in r)) r.tables,
+    (as_kind r s (kind_in r) limits.known).shades palettes,
+    (as_kind r s (kind_in r) limits.known).planes,
+    chunk-code (has_alpha (kind_in r)) r.tables,
   )
 
   coded_by : Ready r s lookup sorted → Coded (codes_in r) (planes_for r.header s) lookup sorted
@@ -75,7 +74,7 @@ module _ (r : Record) (s : Sizes) (lookup sorted seg ends sels alpha_ends alpha_
   coded_by ready = ready.each
 
   pub level_by : Ready r s lookup sorted → {ps : Planes} → ps ≡ planes_for r.header s → {budget left : ℕ} (d : List ℕ) {e : List ℕ}
-      {u : Unpacked}
+      {u : Drawn}
       → ((cs : ℕ → List ℕ) → Coded cs ps lookup sorted → Unpacks
       (ended_by (kind_in r) cs (given lookup sorted seg ends sels alpha_ends alpha_sels ps g) budget d) budget left e u)
       → Unpacks (drawn_level r seg palettes g budget d) budget left e u

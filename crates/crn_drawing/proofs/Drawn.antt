@@ -1,15 +1,18 @@
 -- A level's chunks were gone over: what is then answered and left is what the definition says.
 use Prim.Native.Nat.{ℕ, ◌-◌, ◌≤◌}
 use mathlib.Core.List.{List}
+use Rattle.std.specs.Prelude.{Ok, Err}
 use mathlib.Core.Path.{◌≡◌, refl, sym, ap, subst, ◌∙◌}
 use native.Mathlib.Omega.{arith}
 use lib.ListN.{length}
 use Rattle.crn_format.specs.Reading.{Step, Spending, from_bits}
-use Rattle.crn_format.specs.Header.{Kind, DXT1, DXT5, DXT5A, DXN, unknown}
+use Rattle.crn_format.specs.declared.Kind.{Kind}
+use Rattle.crn_format.specs.declared.Kind.TheVariants.{DXT1, DXT5, DXT5A, DXN, Unknown}
 use Rattle.crn_format.specs.Level.{Chunk, level}
 use Rattle.crn_format.specs.Grid.{insides, chunk_count, painted, blank, block_at, cutouts}
 use Rattle.crn_format.specs.Unpacking.{unpacked, declined, cutout_count, ended}
 use Rattle.crn_format.proofs.Budget.{left_of, left_falls}
+use Rattle.crn_format.specs.Refusals.{number_of}
 use Rattle.crn_symbol_codec.specs.Cursors.{place}
 use Rattle.crn_symbol_codec.specs.declared.Cursor.{Cursor}
 use Rattle.crn_chunks.specs.Meaning.{spending, planes, Coded}
@@ -18,18 +21,12 @@ use Rattle.crn_chunks.specs.declared.Stream.{Stream}
 use Rattle.crn_chunks.specs.declared.Stop.{Stop}
 use Rattle.crn_blocks.specs.Sheet.{standing}
 use Rattle.crn_blocks.proofs.Whole.{wiped, counted}
-use Rattle.crn_unpacker.specs.Going.{Given, Fit, Goes, none, shades}
-use Rattle.crn_unpacker.specs.declared.Went.{Went}
-use Rattle.crn_unpacker.specs.declared.Went.TheVariants.{On, Stopped}
+use Rattle.crn_unpacker.specs.Going.{Went, Given, Fit, Goes, none, shades}
 use Rattle.crn_unpacker.proofs.Whole.{level_course, chunks_here, level_run, Through, through, early}
 use Rattle.crn_drawing.specs.declared.Unpacked.{Unpacked}
-use Rattle.crn_drawing.specs.declared.Unpacked.TheVariants.{Blocks, Refused}
+use Rattle.crn_drawing.specs.declared.Refused.{Refused}
 use Rattle.crn_drawing.specs.Unpacks.{answer_of, Unpacks}
-use Rattle.crn_drawing.specs.Levels.{ended_by, stop_of, Refuses, Finishes}
-
--- the refusal that is told
-pub told : {w : Went} {x y : Stop} → y ≡ stop_of w → w ≡ Stopped x → w ≡ Stopped y
-told e is = is ∙ ap Stopped (sym (e ∙ ap stop_of is))
+use Rattle.crn_drawing.specs.Levels.{ended_by, Refuses, Finishes}
 
 abbrev first : Cursor → ℕ → Stream
 first c all = record { cursor = c; blamed = 0; left = all }
@@ -45,15 +42,15 @@ module _ (l : Given) (c : Cursor) (all : ℕ) (at_first : place c ≡ 0) (d e : 
     falls = left_falls (from_bits l.seg) (level (cs 0) (planes cs l.planes) (insides l.grid 0 (chunk_count l.grid)))
         (spending (first c all))
 
-    on_falls : (r : Carried) (t : Stream) → w ≡ On r t → t.left ≤ all
+    on_falls : (r : Carried) (t : Stream) → w ≡ Ok (r, t) → t.left ≤ all
     on_falls r t is = subst (λ (x : Step Spending (List Chunk)). left_of x ≤ all) (through goes cs coded fit is).runs falls
 
-    stop_falls : (x : Stop) → w ≡ Stopped x → x.left ≤ all
+    stop_falls : (x : Stop) → w ≡ Err x → x.left ≤ all
     stop_falls x is = subst (λ (y : Step Spending (List Chunk)). left_of y ≤ all) (early goes cs coded is).runs falls
 
     -- ---- all chunks were read
 
-    module _ (r : Carried) (t : Stream) (is : w ≡ On r t) where
+    module _ (r : Carried) (t : Stream) (is : w ≡ Ok (r, t)) where
       abbrev block : ℕ → ℕ → ℕ → List ℕ
       block = block_at l.grid (shades l) (chunks_here l (level_course l cs (first c all)))
 
@@ -68,14 +65,14 @@ module _ (l : Given) (c : Cursor) (all : ℕ) (at_first : place c ≡ 0) (d e : 
       cut DXT5 = refl
       cut DXT5A = refl
       cut DXN = refl
-      cut unknown = refl
+      cut Unknown = refl
 
       ended-whole : (k : Kind) → ended_by k cs l all d ≡ unpacked (all - t.left) (cutout_count k l.grid block)
           (painted l.grid block l.grid.faces d)
       unfolding ended
       ended-whole k = from_first k ∙ ap (ended k l.grid (shades l) all d) went.runs
 
-      answer-whole : (k : Kind) → answer_of (Blocks (all - t.left) (cutout_count k l.grid (standing l.grid e))) e
+      answer-whole : (k : Kind) → answer_of (Ok (record { symbols = all - t.left; cutouts = cutout_count k l.grid (standing l.grid e) })) e
           ≡ unpacked (all - t.left) (cutout_count k l.grid block) (painted l.grid block l.grid.faces d)
       unfolding answer_of
       answer-whole k =
@@ -83,40 +80,41 @@ module _ (l : Given) (c : Cursor) (all : ℕ) (at_first : place c ≡ 0) (d e : 
           went.picture
 
       pub unpacked-whole : (k : Kind) {after : ℕ} {u : Unpacked} → Finishes t.left all k l.grid after e u → Unpacks (ended_by k cs l all d)
-          all after e u
+          all after e (Ok u)
       unpacked-whole k f =
           record {
-            answer = ap (λ (v : Unpacked). answer_of v e) f.answer ∙ answer-whole k ∙ sym (ended-whole k);
+            answer = ap (λ (v : Unpacked). answer_of (Ok v) e) f.answer ∙ answer-whole k ∙ sym (ended-whole k);
             spent = rw f.answer (omega (arith, f.budget, on_falls r t is));
           }
 
     -- ---- or one was refused
 
-    ended-none : (k : Kind) (x : Stop) → w ≡ Stopped x
-        → ended_by k cs l all d ≡ declined x.number (all - x.left) x.at (painted l.grid (blank l.grid) l.grid.faces d)
+    ended-none : (k : Kind) (x : Stop) → w ≡ Err x
+        → ended_by k cs l all d ≡ declined (number_of x.refusal) (all - x.left) x.at (painted l.grid (blank l.grid) l.grid.faces d)
     unfolding ended
     ended-none k x is = from_first k ∙ ap (ended k l.grid (shades l) all d) (early goes cs coded is).runs
 
     answer-none : (x : Stop) (e' : List ℕ) → e' ≡ painted l.grid (blank l.grid) l.grid.faces d
-        → answer_of (Refused x.number (all - x.left) x.at) e' ≡ declined x.number (all - x.left) x.at
-        (painted l.grid (blank l.grid) l.grid.faces d)
+        → answer_of (Err (record { refusal = x.refusal; symbols = all - x.left; at = x.at })) e'
+        ≡ declined (number_of x.refusal) (all - x.left) x.at (painted l.grid (blank l.grid) l.grid.faces d)
     unfolding answer_of
-    answer-none x e' b = ap (λ (b : List ℕ). declined x.number (all - x.left) x.at b) b
+    answer-none x e' b = ap (λ (b : List ℕ). declined (number_of x.refusal) (all - x.left) x.at b) b
 
-    pub unpacked-none : (k : Kind) (x : Stop) → w ≡ Stopped x → {after : ℕ} {e' : List ℕ} {u : Unpacked} → Refuses x all l.grid after e e' u
-        → Unpacks (ended_by k cs l all d) all after e' u
+    pub unpacked-none : (k : Kind) (x : Stop) → w ≡ Err x → {after : ℕ} {e' : List ℕ} {u : Refused} → Refuses x all l.grid after e e' u
+        → Unpacks (ended_by k cs l all d) all after e' (Err u)
     unpacked-none k x is {after} {e'} {u} f =
         record {
           answer =
-              ap (λ (v : Unpacked). answer_of v e') f.answer ∙ answer-none x e' (f.cleared ∙ wiped fit.room (early goes cs coded is).rest) ∙
-              sym (ended-none k x is);
+              ap (λ (v : Refused). answer_of (Err v) e') f.answer
+              ∙ answer-none x e' (f.cleared ∙ wiped fit.room (early goes cs coded is).rest)
+              ∙ sym (ended-none k x is);
           spent = rw f.answer (omega (arith, f.budget, stop_falls x is));
         }
 
   -- ---- what is left, whatever the codes are
 
-  pub on-left : (r : Carried) (t : Stream) → w ≡ On r t → t.left ≤ all
+  pub on-left : (r : Carried) (t : Stream) → w ≡ Ok (r, t) → t.left ≤ all
   on-left r t is = on_falls fit.served.codes fit.served.coded r t is
 
-  pub stop-left : (x : Stop) → w ≡ Stopped x → x.left ≤ all
+  pub stop-left : (x : Stop) → w ≡ Err x → x.left ≤ all
   stop-left x is = stop_falls fit.served.codes fit.served.coded x is

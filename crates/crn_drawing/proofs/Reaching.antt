@@ -6,7 +6,9 @@ use borrow.Author.Tests.{leb-true}
 use lib.Dec.{leb}
 use lib.ListN.{length}
 use Rattle.crn_format.specs.Choice.{pick}
-use Rattle.crn_format.specs.Header.{Kind, DXT1, DXT5, DXT5A, DXN, unknown, kind_of, known, has_color, has_alpha}
+use Rattle.crn_format.specs.declared.Kind.{Kind}
+use Rattle.crn_format.specs.declared.Kind.TheVariants.{DXT1, DXT5, DXT5A, DXN, Unknown}
+use Rattle.crn_format.specs.Header.{kind_of, known, has_color, has_alpha}
 use Rattle.crn_format.specs.Grid.{color, alpha}
 use Rattle.crn_format.specs.Opening.{Palettes}
 use Rattle.crn_format.specs.Unpacking.{palettes_reach}
@@ -49,4 +51,4 @@ reach_by h s p DXT1 e l = (l.colors refl, l.colors refl)
 reach_by h s p DXT5 e l = (l.alphas refl, l.colors refl)
 reach_by h s p DXT5A e l = (l.alphas refl, l.alphas refl)
 reach_by h s p DXN e l = (l.alphas refl, l.alphas refl)
-reach_by h s p unknown e l = absurd (false≢true e)
+reach_by h s p Unknown e l = absurd (false≢true e)

@@ -2,7 +2,8 @@
 use Rattle.std.specs.Prelude.{ℕ, ◌-◌, ◌<◌, ◌≡◌, true, List, length}
 use Rattle.crn_format.specs.Limits.{too_long}
 use Rattle.crn_format.specs.Reading.{start, run}
-use Rattle.crn_format.specs.Header.{Kind, kind_of, has_color, has_alpha, block_bytes, within_limits}
+use Rattle.crn_format.specs.declared.Kind.{Kind}
+use Rattle.crn_format.specs.Header.{kind_of, has_color, has_alpha, block_bytes, within_limits}
 use Rattle.crn_format.specs.Level.{level}
 use Rattle.crn_format.specs.Grid.{chunk_count, insides, painted, blank}
 use Rattle.crn_format.specs.Opening.{Palettes}
@@ -15,12 +16,10 @@ use Rattle.crn_chunks.specs.Meaning.{source, planes}
 use Rattle.crn_chunks.specs.declared.Stop.{Stop}
 use Rattle.crn_blocks.specs.Sheet.{Room, standing}
 use Rattle.crn_unpacker.specs.Going.{Given, shades}
-use Rattle.crn_unpacker.specs.declared.Went.{Went}
-use Rattle.crn_unpacker.specs.declared.Went.TheVariants.{On, Stopped}
 use Rattle.crn_decoders.specs.declared.decoders.Sizes.{Sizes}
 use Rattle.crn_decoders.specs.Tables.{Able, CodedTo, codes_of, tables_in}
 use Rattle.crn_drawing.specs.declared.Unpacked.{Unpacked}
-use Rattle.crn_drawing.specs.declared.Unpacked.TheVariants.{Blocks, Refused}
+use Rattle.crn_drawing.specs.declared.Refused.{Refused}
 
 -- what the checks before the first draw leave to count on: p are the lent palettes, g is the level's grid, and n bytes are lent
 pub record Checked (r : Record) (seg : List ℕ) (p : Palettes) (g : Grid) (n : ℕ) : Type 0 where
@@ -61,16 +60,12 @@ ended_by k cs l budget dst =
     ended k l.grid (shades l) budget dst
     (run (source l.seg) (level (cs 0) (planes cs l.planes) (insides l.grid 0 (chunk_count l.grid))) (record { place = start; left = budget }))
 
-abbrev pub stop_of : Went → Stop
-stop_of (On r s) = record { number = 0; at = 0; left = 0 }
-stop_of (Stopped x) = x
-
 -- a refusal, of a budget of which so many were there
-pub record Refuses (x : Stop) (all : ℕ) (g : Grid) (after : ℕ) (d e : List ℕ) (r : Unpacked) : Type 0 where
-  pub answer : r ≡ Refused x.number (all - x.left) x.at
+pub record Refuses (x : Stop) (all : ℕ) (g : Grid) (after : ℕ) (d e : List ℕ) (r : Refused) : Type 0 where
+  pub answer : r ≡ record { refusal = x.refusal; symbols = all - x.left; at = x.at }
   pub budget : after ≡ x.left
   pub cleared : e ≡ painted g (blank g) g.faces d
 
 pub record Finishes (left all : ℕ) (k : Kind) (g : Grid) (after : ℕ) (d : List ℕ) (r : Unpacked) : Type 0 where
-  pub answer : r ≡ Blocks (all - left) (cutout_count k g (standing g d))
+  pub answer : r ≡ record { symbols = all - left; cutouts = cutout_count k g (standing g d) }
   pub budget : after ≡ left

@@ -25,24 +25,20 @@ fn edited_part(p: Part, offset: u32, size: u32, count: u32, field: u32, value: u
     }
 }
 
-// An index out of range changes nothing.
-fn edited_offsets(offsets: [u32; 13], field: u32, index: usize, value: u32) -> [u32; 13]
-    ensures { result ≡ pick (eqb field 10) (set offsets index value) offsets }
+// The items with the one at an index edited, if they are the field that is. An index out of range changes nothing.
+fn edited_at<T: Copy, const N: usize>(items: [T; N], edited: bool, index: usize, value: T) -> [T; N]
+    ensures { result ≡ pick edited (set items index value) items }
 {
-    let mut s = offsets;
-    if field == 10 {
-        if index < 13 {
-            s[index] = value;
-        }
+    let mut items = items;
+    if edited && index < N {
+        items[index] = value;
     }
-    s
+    items
 }
 
 fn edited_header(h: Header, field: u32, index: usize, value: u32) -> Header
     ensures { result ≡ header_edited h field index value }
 {
-    let offsets = h.level_offsets;
-    let level_offsets = edited_offsets(offsets, field, index, value);
     Header {
         header_size: chosen(field, 21, value, h.header_size),
         header_crc16: chosen(field, 22, value, h.header_crc16),
@@ -63,38 +59,17 @@ fn edited_header(h: Header, field: u32, index: usize, value: u32) -> Header
         alpha_selectors: edited_part(h.alpha_selectors, 34, 38, 9, field, value),
         tables_size: chosen(field, 29, value, h.tables_size),
         tables_offset: chosen(field, 30, value, h.tables_offset),
-        level_offsets: level_offsets,
+        level_offsets: edited_at(h.level_offsets, field == 10, index, value),
     }
 }
 
-// A length is a byte: a value is cut to it.
-fn edited_lengths(
-    lengths: [u8; 8192],
-    this: u32,
-    field: u32,
-    index: usize,
-    value: u32,
-) -> [u8; 8192]
-    ensures { result ≡ pick (eqb field this) (set lengths index (value % 256)) lengths }
-{
-    let mut s = lengths;
-    if field == this {
-        if index < 8192 {
-            s[index] = (value % 256) as u8;
-        }
-    }
-    s
-}
-
-// `count` and `length` are the fields of this table.
+// `count` and `length` are the fields of this table. A length is a byte: a value is cut to it.
 fn edited_table(t: Table, count: u32, length: u32, field: u32, index: usize, value: u32) -> Table
     ensures { result ≡ table_edited t count length field index value }
 {
-    let old = t.lengths;
-    let lengths = edited_lengths(old, length, field, index, value);
     Table {
         count: chosen(field, count, value, t.count),
-        lengths: lengths,
+        lengths: edited_at(t.lengths, field == length, index, (value % 256) as u8),
     }
 }
 

@@ -1,18 +1,52 @@
 -- A turn of `summed`: a symbol is added to the i-th of the running sums.
-use Rattle.std.proofs.Common.{◌≡◌, ℕ, zero, suc, ◌+◌, ◌%◌, ◌<◌, ◌≤◌, Bool, true, false, List, [], ◌∷◌, length, get_or, drop, set, replicate, refl, ap, arith, drop_of_length-le, get_or-set_other, get_or-set_same}
-use native.Mathlib.Decide.{ℕ_discrete, dec_lt}
-use lib.Seq.{set_out}
-use Rattle.crn_format.specs.Choice.{pick}
+use Rattle.std.proofs.Common.{◌≡◌, ℕ, zero, suc, ◌+◌, ◌-◌, ◌%◌, ◌^◌, ◌<◌, ◌≤◌, Bool, true, false, List, [], ◌∷◌, length, get_or, drop, set, bit_and, refl, sym, ap, ◌∙◌, arith, drop_of_length-le}
+use Rattle.std.specs.Prelude.{Ok, Err}
+use Rattle.std.proofs.Math.Nat.{add-mod-mod}
+use Rattle.std.proofs.lemmas.Nat.{and_le_r, and_mask}
+use Rattle.std.proofs.lemmas.List.{get_or_default, get_or_past}
 use Rattle.crn_format.specs.Reading.{a_symbol, answer, draw, Step, refused, Place, spot, run, from_bits}
 use Rattle.crn_format.specs.Palettes.{Sum, summed, alpha_sums, color_sums}
-use Rattle.crn_format.proofs.Zeros.{zeros-at}
+use Rattle.crn_format.specs.Refusals.{number_of}
+use Rattle.crn_format.specs.declared.Fault.{Fault}
 use Rattle.crn_symbol_codec.specs.Cursors.{place}
+use Rattle.crn_symbol_codec.specs.Decoders.{Decodes}
 use Rattle.crn_symbol_codec.specs.Taking.{Takes}
+use Rattle.crn_symbol_codec.specs.Telling.{fault}
 use Rattle.crn_symbol_codec.specs.declared.Cursor.{Cursor}
-use Rattle.crn_symbol_codec.specs.declared.Taken.{Taken}
-use Rattle.crn_symbol_codec.specs.declared.Taken.TheVariants.{Value, Failed}
-use Rattle.crn_endpoints.specs.Endpoints.{six_bits, modulus_of, Small}
+use Rattle.crn_endpoints.specs.Endpoints.{AddsAs, Adds, Kept, six_bits, modulus_of, Small}
+use Rattle.crn_endpoints.specs.declared.Sum.{Sum as Running}
+use Rattle.crn_symbol_codec.specs.declared.Decoder.{Decoder}
 use Rattle.crn_palettes.proofs.Leaving.{Left, left_is, left-drawn, left-failed}
+
+-- ---- the sums of the code beside those of the definition
+
+-- the i-th of them
+pub record AddsAt (xs : List Running) (ms : List Sum) (i : ℕ) (x : Running) : Type 0 where
+  pub sum : Sum
+  pub first : drop i ms ≡ sum ∷ drop (i + 1) ms
+  pub adds : AddsAs (get_or xs i x) sum
+
+pub adds_at : {xs : List Running} {ms : List Sum} (i : ℕ) (x : Running) → Adds xs ms → i < length xs → AddsAt xs ms i x
+adds_at {xs = []} {ms = []} i x a h = absurd (omega arith)
+adds_at {xs = []} {ms = m ∷ ms} i x a h = elim a [ ]
+adds_at {xs = x₁ ∷ xs} {ms = []} i x a h = elim a [ ]
+adds_at {xs = x₁ ∷ xs} {ms = m ∷ ms} zero x a h = record { sum = m; first = refl; adds = a.0 }
+adds_at {xs = x₁ ∷ xs} {ms = m ∷ ms} (suc i) x a h =
+    let r = adds_at {xs = xs} {ms = ms} i x a.1 (omega arith) in
+    let e : suc (i + 1) ≡ suc i + 1 = omega arith in
+    record { sum = r.sum; first = r.first ∙ ap (λ (j : ℕ). r.sum ∷ drop j (m ∷ ms)) e; adds = r.adds }
+
+adds-long : (xs : List Running) (ms : List Sum) → Adds xs ms → length ms ≡ length xs
+adds-long [] [] a = refl
+adds-long [] (m ∷ ms) a = elim a [ ]
+adds-long (x ∷ xs) [] a = elim a [ ]
+adds-long (x ∷ xs) (m ∷ ms) a = ap suc (adds-long xs ms a.1)
+
+-- a sum has no more than its low bits
+pub low_bits : (xs : List Running) (i n : ℕ) (x d : Running) → i < length xs → bit_and n (get_or xs i d).mask ≤ (get_or xs i x).mask
+low_bits xs i n x d h = rw (get_or_default xs i x d h) (and_le_r _ _)
+
+-- ---- the run
 
 -- at the cursor `at`, after i of the sums ms, which are vs now
 pub record Summed (seg : List ℕ) (ms : List Sum) (i : ℕ) (vs : List ℕ) (at : Cursor) (whole : Step Place (List ℕ)) : Type 0 where
@@ -24,72 +58,78 @@ sums_none seg ms vs c b = record { left = record { blamed = b; same = refl } }
 
 module _ {seg : List ℕ} {ms : List Sum} {i : ℕ} {vs : List ℕ} {at : Cursor} {whole : Step Place (List ℕ)} (x : Summed seg ms i vs at whole)
   where
-    module _ {m : Sum} (e : drop i ms ≡ m ∷ drop (i + 1) ms) {r : Taken} (t : Takes seg (a_symbol m.deltas) at r) where
+    module _ {xs : List Running} {y : Running} (a : AddsAt xs ms i y) where
       -- the next sum's symbol is drawn first
-      sum_first : Left seg (draw m.deltas λ s. summed (drop (i + 1) ms) (i + 1) (set vs i ((get_or vs i 0 + s) % m.modulus))) at whole
+      sum_first : Left seg (draw a.sum.deltas λ s. summed (drop (i + 1) ms) (i + 1) (set vs i ((get_or vs i 0 + s) % a.sum.modulus))) at
+          whole
       unfolding summed
-      sum_first = left_is (ap (λ (y : List Sum). summed y i vs) e) x.left
+      sum_first = left_is (ap (λ (l : List Sum). summed l i vs) a.first) x.left
 
-      pub sum_more : {s v : ℕ} {d : Cursor} → r ≡ Value s d → v ≡ (get_or vs i 0 + s) % m.modulus → Summed seg ms (i + 1) (set vs i v) d whole
-      sum_more f g = record { left = rw g (left-drawn sum_first t f) }
+      pub sum_more : {s : ℕ} {d : Cursor} → Takes seg (a_symbol a.sum.deltas) at (Ok (s, d))
+          → Summed seg ms (i + 1) (set vs i (bit_and ((get_or vs i 0 + s % 256) % 256) (get_or xs i y).mask)) d whole
+      sum_more {s} t =
+          let v : bit_and ((get_or vs i 0 + s % 256) % 256) (get_or xs i y).mask ≡ (get_or vs i 0 + s) % a.sum.modulus =
+          ap (λ (n : ℕ). bit_and n (get_or xs i y).mask) (add-mod-mod (get_or vs i 0) s 256) ∙ a.adds.keeps (get_or vs i 0 + s) in
+          record { left = rw v (left-drawn sum_first t refl) }
 
-      pub sum-failed : {n : ℕ} → r ≡ Failed n → whole ≡ refused n (spot (place at) (place at))
-      sum-failed f = left-failed sum_first t f
+      pub sum-failed : {e : Fault} → Takes seg (a_symbol a.sum.deltas) at (Err e.refusal) → e.at ≡ place at → whole ≡ fault e
+      sum-failed {e} t n = left-failed sum_first t refl ∙ ap (λ (p : ℕ). refused (number_of e.refusal) (spot p p)) (sym n)
 
-    pub sums_done : drop i ms ≡ [] → Left seg (answer vs) at whole
+    pub sums_done : (xs : List Running) → Adds xs ms → length xs ≤ i → Left seg (answer vs) at whole
     unfolding summed
-    sums_done e = left_is (ap (λ (y : List Sum). summed y i vs) e) x.left
+    sums_done xs a h =
+        let none : drop i ms ≡ [] = drop_of_length-le ms {i = i} (omega (arith, adds-long xs ms a)) in
+        left_is (ap (λ (l : List Sum). summed l i vs) none) x.left
 
--- ---- the sums of the alpha endpoints
+-- ---- the sums of the two palettes: of eight, five and six bits
 
-pub alpha-sum : (t : List ℕ) (i : ℕ) → i < 2 → drop i (alpha_sums t) ≡ record { deltas = t; modulus = 256 } ∷ drop (i + 1) (alpha_sums t)
+bits_kept : (k n : ℕ) → n % 256 % 2 ^ k ≡ n % 2 ^ k → bit_and (n % 256) (2 ^ k - 1) ≡ n % 2 ^ k
+bits_kept k n e = and_mask (n % 256) k ∙ e
+
+pub alpha-adds : (code : Decoder) {t : List ℕ} → Decodes t code.lookup.now code.sorted.now
+    → Adds (record { deltas = code; mask = 255 } ∷ record { deltas = code; mask = 255 } ∷ []) (alpha_sums t)
 unfolding alpha_sums
-alpha-sum t zero h = refl
-alpha-sum t (suc zero) h = refl
-alpha-sum t (suc (suc i)) h = absurd (omega arith)
-
-pub alpha-ended : (t : List ℕ) (i : ℕ) → 2 ≤ i → drop i (alpha_sums t) ≡ []
-unfolding alpha_sums
-alpha-ended t i h = drop_of_length-le (alpha_sums t) {i = i} h
-
--- ---- the sums of the colour endpoints
-
-color-sum-at : (five six : List ℕ) (i : ℕ) → i < 6 → drop i (color_sums five six) ≡ record
-    { deltas = pick (six_bits i) six five; modulus = modulus_of (six_bits i) } ∷ drop (i + 1) (color_sums five six)
-unfolding color_sums
-color-sum-at five six zero h = refl
-color-sum-at five six (suc zero) h = refl
-color-sum-at five six (suc (suc zero)) h = refl
-color-sum-at five six (suc (suc (suc zero))) h = refl
-color-sum-at five six (suc (suc (suc (suc zero)))) h = refl
-color-sum-at five six (suc (suc (suc (suc (suc zero))))) h = refl
-color-sum-at five six (suc (suc (suc (suc (suc (suc i)))))) h = absurd (omega arith)
-
-pub color-sum : (t : List ℕ × List ℕ) (i : ℕ) {wide : Bool} → wide ≡ six_bits i → i < 6
-    → drop i (color_sums t.0 t.1) ≡ record { deltas = pick wide t.1 t.0; modulus = modulus_of wide } ∷ drop (i + 1) (color_sums t.0 t.1)
-color-sum t i e h = rw e (color-sum-at t.0 t.1 i h)
-
-pub color-ended : (t : List ℕ × List ℕ) (i : ℕ) → 6 ≤ i → drop i (color_sums t.0 t.1) ≡ []
-unfolding color_sums
-color-ended t i h = drop_of_length-le (color_sums t.0 t.1) {i = i} h
-
--- a sum stays below its modulus
-pub small-more : (vs : List ℕ) (i : ℕ) {v : ℕ} (n : ℕ) {wide : Bool} → Small vs → wide ≡ six_bits i → v ≡ n % modulus_of wide → Small
-    (set vs i v)
-small-more vs i {v} n {wide} h f e k = go (ℕ_discrete k i) (dec_lt i (length vs))
+alpha-adds code {t} d = (m8, (m8, tt))
   where
-    positive : (six : Bool) → n % modulus_of six < modulus_of six
-    positive true = omega arith
-    positive false = omega arith
+    m8 : AddsAs (record { deltas = code; mask = 255 }) (record { deltas = t; modulus = 256 })
+    m8 = record { decodes = d; keeps = λ n. bits_kept 8 n (omega arith) }
 
-    go : Dec (k ≡ i) → Dec (i < length vs) → get_or (set vs i v) k 0 < modulus_of (six_bits k)
-    go (no q) l = rw (get_or-set_other vs i k v 0 q) (h k)
-    go (yes q) (yes l) = rw (q, get_or-set_same vs i v 0 l, e, f) (positive (six_bits i))
-    go (yes q) (no l) = rw (set_out vs i v (omega arith)) (h k)
-
-pub small-zeros : (n i : ℕ) → get_or (replicate n 0) i 0 < modulus_of (six_bits i)
-small-zeros n i = rw (zeros-at n i) (some (six_bits i))
+pub color-adds : (five six : Decoder) {t : List ℕ × List ℕ} → Decodes t.0 five.lookup.now five.sorted.now × Decodes t.1 six.lookup.now
+    six.sorted.now
+    → Adds
+    (record { deltas = five; mask = 31 } ∷ record { deltas = six; mask = 63 } ∷ record { deltas = five; mask = 31 } ∷ record
+    { deltas = five; mask = 31 } ∷ record { deltas = six; mask = 63 } ∷ record { deltas = five; mask = 31 } ∷ []) (color_sums t.0 t.1)
+unfolding color_sums
+color-adds five six {t} d = (m5, (m6, (m5, (m5, (m6, (m5, tt))))))
   where
-    some : (six : Bool) → 0 < modulus_of six
+    m5 : AddsAs (record { deltas = five; mask = 31 }) (record { deltas = t.0; modulus = 32 })
+    m5 = record { decodes = d.0; keeps = λ n. bits_kept 5 n (omega arith) }
+
+    m6 : AddsAs (record { deltas = six; mask = 63 }) (record { deltas = t.1; modulus = 64 })
+    m6 = record { decodes = d.1; keeps = λ n. bits_kept 6 n (omega arith) }
+
+-- six values that have no more than the low bits of the colour's sums
+pub small-six : {five six : Decoder} (vs : List ℕ) → length vs ≡ 6 → Kept
+    (record { deltas = five; mask = 31 } ∷ record { deltas = six; mask = 63 } ∷ record { deltas = five; mask = 31 } ∷ record
+    { deltas = five; mask = 31 } ∷ record { deltas = six; mask = 63 } ∷ record { deltas = five; mask = 31 } ∷ []) vs
+    → Small vs
+small-six {five} {six} vs l h = go
+  where
+    x : Running
+    x = record { deltas = five; mask = 0 }
+
+    some : (wide : Bool) → 0 < modulus_of wide
     some true = omega arith
     some false = omega arith
+
+    past : (k : ℕ) → 6 ≤ k → get_or vs k 0 < modulus_of (six_bits k)
+    past k f = rw (get_or_past vs k 0 (omega arith)) (some (six_bits k))
+
+    go : Small vs
+    go zero = let b = h 0 x (omega arith) in omega arith
+    go (suc zero) = let b = h 1 x (omega arith) in omega arith
+    go (suc (suc zero)) = let b = h 2 x (omega arith) in omega arith
+    go (suc (suc (suc zero))) = let b = h 3 x (omega arith) in omega arith
+    go (suc (suc (suc (suc zero)))) = let b = h 4 x (omega arith) in omega arith
+    go (suc (suc (suc (suc (suc zero))))) = let b = h 5 x (omega arith) in omega arith
+    go (suc (suc (suc (suc (suc (suc i)))))) = past _ (omega arith)

@@ -17,3 +17,5 @@ pub mod Zeros
 pub mod SelectorOrder
 pub mod Examples
 pub mod LoadExamples
+pub mod Numbers
+pub mod Results

@@ -4,6 +4,8 @@ use Rattle.crn_format.specs.Choice.{pick, both, either}
 use Rattle.crn_format.specs.Limits.{max_side, max_levels, max_entries, too_long}
 use Rattle.crn_format.specs.declared.Part.{Part}
 use Rattle.crn_format.specs.declared.Header.{Header}
+use Rattle.crn_format.specs.declared.Kind.{Kind}
+use Rattle.crn_format.specs.declared.Kind.TheVariants.{DXT1, DXT5, DXT5A, DXN, Unknown}
 
 -- "The signature is the two bytes 48 78 (hex), compared as they stand"; 74 bytes at least (refusal 1): of n bytes that begin with these
 unfoldable pub signed_in : List ℕ → ℕ → Bool
@@ -58,42 +60,39 @@ header_of file =
 
 -- ---- formats: "0 DXT1; 2 to 6 DXT5 and its swizzles; 7, 8 DXN; 9 DXT5A"
 
-pub data Kind : Type 0 where
-  DXT1 DXT5 DXT5A DXN unknown : Kind
-
 abbrev pub between : ℕ → ℕ → ℕ → Bool
 between low high n = both (leb low n) (leb n high)
 
 unfoldable pub kind_of : ℕ → Kind
-kind_of f = pick (eqb f 0) DXT1 (pick (between 2 6 f) DXT5 (pick (between 7 8 f) DXN (pick (eqb f 9) DXT5A unknown)))
+kind_of f = pick (eqb f 0) DXT1 (pick (between 2 6 f) DXT5 (pick (between 7 8 f) DXN (pick (eqb f 9) DXT5A Unknown)))
 
 abbrev pub known : Kind → Bool
 known DXT1 = true
 known DXT5 = true
 known DXT5A = true
 known DXN = true
-known unknown = false
+known Unknown = false
 
 abbrev pub has_color : Kind → Bool
 has_color DXT1 = true
 has_color DXT5 = true
 has_color DXT5A = false
 has_color DXN = false
-has_color unknown = false
+has_color Unknown = false
 
 abbrev pub has_alpha : Kind → Bool
 has_alpha DXT1 = false
 has_alpha DXT5 = true
 has_alpha DXT5A = true
 has_alpha DXN = true
-has_alpha unknown = false
+has_alpha Unknown = false
 
 abbrev pub block_bytes : Kind → ℕ
 block_bytes DXT1 = 8
 block_bytes DXT5 = 16
 block_bytes DXT5A = 8
 block_bytes DXN = 16
-block_bytes unknown = 0
+block_bytes Unknown = 0
 
 -- ---- limits (refusal 2) and sizes (refusal 3)
 

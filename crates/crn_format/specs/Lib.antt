@@ -1,6 +1,7 @@
 -- What a CRN file means. The modules follow document 01: read them from top to bottom.
 pub mod Choice
 pub mod Limits
+pub mod Refusals
 pub mod Bits
 pub mod Codes
 pub mod Reading

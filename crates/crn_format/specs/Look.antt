@@ -1,11 +1,14 @@
 -- The header look (document 02, request 2): "Refusals: 1 to 3 belong to the look", in opening's order and without its streams.
-use Rattle.std.specs.Prelude.{ℕ, ◌+◌, ◌*◌, List, length, replicate}
+use Rattle.std.specs.Prelude.{Ok, Err, ℕ, ◌+◌, ◌*◌, List, length, replicate}
+use Rattle.std.specs.declared.result.Result.{Result}
 use Rattle.crn_format.specs.Choice.{pick}
 use Rattle.crn_format.specs.Limits.{max_levels}
 use Rattle.crn_format.specs.Header.{signed_in, header_of, within_limits, sizes_in}
 use Rattle.crn_format.specs.declared.Part.{Part}
 use Rattle.crn_format.specs.declared.Header.{Header}
+use Rattle.crn_format.specs.Refusals.{number_of}
 use Rattle.crn_format.specs.declared.Looked.{Looked}
+use Rattle.crn_format.specs.declared.Refusal.{Refusal}
 
 abbrev pub empty_part : Part
 empty_part = record { offset = 0; size = 0; count = 0 }
@@ -41,6 +44,11 @@ found h = record { refusal = 0; header = h }
 
 abbrev pub no : ℕ → Looked
 no n = record { refusal = n; header = empty_header }
+
+-- a look's answer by its number
+abbrev pub looked : Result Header Refusal → Looked
+looked (Ok h) = found h
+looked (Err n) = no (number_of n)
 
 -- the bytes of the longest header: the fields, and an offset for each level
 abbrev pub head_bytes : ℕ

@@ -5,7 +5,9 @@ use Rattle.crn_format.specs.Choice.{pick, both, either}
 use Rattle.crn_format.specs.Limits.{max_symbols, too_long}
 use Rattle.crn_format.specs.Codes.{is_code}
 use Rattle.crn_format.specs.Reading.{Reading, Step, got, refused, Spending, start, run, from_bits, budgeted}
-use Rattle.crn_format.specs.Header.{Kind, DXT1, DXT5, DXT5A, DXN, unknown, kind_of, has_color, has_alpha, block_bytes, within_limits}
+use Rattle.crn_format.specs.declared.Kind.{Kind}
+use Rattle.crn_format.specs.declared.Kind.TheVariants.{DXT1, DXT5, DXT5A, DXN, Unknown}
+use Rattle.crn_format.specs.Header.{kind_of, has_color, has_alpha, block_bytes, within_limits}
 use Rattle.crn_format.specs.Opening.{Palettes, segment}
 use Rattle.crn_format.specs.Level.{Plane, Chunk, level}
 use Rattle.crn_format.specs.Grid.{Shade, color, alpha, pixels, blocks, chunk_count, insides, block_at, painted, blank, cutouts}
@@ -109,7 +111,7 @@ per_plane DXT1 c a = c ∷ []
 per_plane DXT5 c a = a ∷ c ∷ []
 per_plane DXT5A c a = a ∷ []
 per_plane DXN c a = a ∷ a ∷ []
-per_plane unknown c a = []
+per_plane Unknown c a = []
 
 abbrev pub planes_of : Record → List Plane
 planes_of r = per_plane (kind_of r.header.format) (color_plane r) (alpha_plane r)
@@ -139,7 +141,7 @@ cutout_count DXT1 g block = cutouts g block g.faces
 cutout_count DXT5 g block = 0
 cutout_count DXT5A g block = 0
 cutout_count DXN g block = 0
-cutout_count unknown g block = 0
+cutout_count Unknown g block = 0
 
 -- every block of every face in its place; or a refusal, which leaves every block of the grid zero; all else as before
 unfoldable pub ended : Kind → Grid → List Shade → ℕ → List ℕ → Step Spending (List Chunk) → Unpacking

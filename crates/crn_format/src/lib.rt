@@ -1,9 +1,111 @@
 // The records of a CRN file, as the definitions in specs/ speak of them.
 #![tactic(auto)]
 
+ghost use Rattle.std.specs.Prelude.{◌≡◌};
+ghost use Rattle.crn_format.specs.Header.{kind_of, known, has_color, has_alpha, block_bytes};
+ghost use Rattle.crn_format.specs.Refusals.{number_of};
+
+// Why a call is refused, with document 01's number.
+#[derive(Clone, Copy, PartialEq, Eq)]
+pub enum Refusal {
+    NotSigned = 1,
+    BeyondLimits = 2,
+    WrongSizes = 3,
+    NoSegment = 4,
+    ShortPalettes = 5,
+    NoCode = 6,
+    NoSymbol = 7,
+    Ended = 8,
+    NoSelector = 9,
+    NoLevel = 10,
+    WrongGrid = 11,
+    NoRoom = 12,
+    NoEncoding = 13,
+    NoEntry = 14,
+    OutOfBudget = 15,
+    NotWritten = 16,
+    Disagrees = 17,
+    ShortPitch = 18,
+    FewBlocks = 28,
+}
+
+impl From<Refusal> for u32 {
+    ghost from_gives = { λ refusal number. number ≡ number_of refusal };
+
+    fn from(refusal: Refusal) -> u32 {
+        refusal as u32
+    }
+}
+
+// A refusal in a stream, and the bit that it names.
+#[derive(Clone, Copy)]
+pub struct Fault {
+    pub refusal: Refusal,
+    pub at: usize,
+}
+
+// What a format's number means: "0 DXT1; 2 to 6 DXT5 and its swizzles; 7, 8 DXN; 9 DXT5A" (document 01, Header).
+#[derive(Clone, Copy, PartialEq, Eq)]
+pub enum Kind {
+    DXT1,
+    DXT5,
+    DXT5A,
+    DXN,
+    Unknown,
+}
+
+impl From<u32> for Kind {
+    ghost from_gives = { λ format kind. kind ≡ kind_of format };
+
+    #[tactic(auto, unfolding(crate::specs::Header::kind_of))]
+    fn from(format: u32) -> Kind {
+        match format {
+            0 => Kind::DXT1,
+            2..=6 => Kind::DXT5,
+            7 | 8 => Kind::DXN,
+            9 => Kind::DXT5A,
+            _ => Kind::Unknown,
+        }
+    }
+}
+
+impl Kind {
+    // A format that is known has a plane.
+    pub fn is_known(self) -> bool
+        ensures { result ≡ known self }
+    {
+        self != Kind::Unknown
+    }
+
+    // DXT1 and DXT5 have a colour plane.
+    pub fn has_color(self) -> bool
+        ensures { result ≡ has_color self }
+    {
+        matches!(self, Kind::DXT1 | Kind::DXT5)
+    }
+
+    // DXT5, DXN and DXT5A have an alpha plane.
+    pub fn has_alpha(self) -> bool
+        ensures { result ≡ has_alpha self }
+    {
+        matches!(self, Kind::DXT5 | Kind::DXT5A | Kind::DXN)
+    }
+
+    // The bytes of a block: eight for each plane.
+    pub fn block_bytes(self) -> u32
+        ensures { result ≡ block_bytes self }
+    {
+        match self {
+            Kind::DXT1 | Kind::DXT5A => 8,
+            Kind::DXT5 | Kind::DXN => 16,
+            Kind::Unknown => 0,
+        }
+    }
+}
+
 // Where a part of the file stands, and how many palette entries it has.
 #[repr(C)]
-#[derive(Clone, Copy)]
+#[derive(Clone, Copy, PartialEq, Eq, Default)]
 pub struct Part {
     pub offset: u32,
     pub size: u32,
@@ -12,7 +114,7 @@ pub struct Part {
 
 // The header's fields as read. A level that the file does not have is at offset 0.
 #[repr(C)]
-#[derive(Clone, Copy)]
+#[derive(Clone, Copy, PartialEq, Eq, Default)]
 pub struct Header {
     pub header_size: u32,
     pub header_crc16: u32,

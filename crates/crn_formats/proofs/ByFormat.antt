@@ -5,7 +5,9 @@ use native.Mathlib.Omega.{arith}
 use borrow.Author.Tests.{le-leb, lt-leb, ne_eqb}
 use lib.Dec.{lit≤}
 use Rattle.crn_format.specs.Choice.{either}
-use Rattle.crn_format.specs.Header.{Kind, DXT1, DXT5, DXT5A, DXN, unknown, kind_of, known, has_color, has_alpha, block_bytes}
+use Rattle.crn_format.specs.declared.Kind.{Kind}
+use Rattle.crn_format.specs.declared.Kind.TheVariants.{DXT1, DXT5, DXT5A, DXN, Unknown}
+use Rattle.crn_format.specs.Header.{kind_of, known, has_color, has_alpha, block_bytes}
 use Rattle.crn_formats.proofs.Joined.{split}
 
 pub DXT5-from-2 : {f : ℕ} → 2 ≤ f → f ≤ 6 → kind_of f ≡ DXT5
@@ -17,7 +19,7 @@ unfolding kind_of
 DXN-from-7 {f} low high =
     simp (ne_eqb f 0 (λ e. omega arith), le-leb 2 f (omega arith), lt-leb f 6 (omega arith), le-leb 7 f low, le-leb f 8 high)
 
-pub unknown_from_10 : {f : ℕ} → 10 ≤ f → kind_of f ≡ unknown
+pub unknown_from_10 : {f : ℕ} → 10 ≤ f → kind_of f ≡ Unknown
 unfolding kind_of
 unknown_from_10 {f} low =
     simp (
@@ -30,8 +32,8 @@ unknown_from_10 {f} low =
     )
 
 -- what holds of each format with its kind holds of every number with the kind that `kind_of` gives it
-module _ (P : ℕ → Kind → Type 0) (at0 : P 0 DXT1) (at1 : P 1 unknown) (from2 : (f : ℕ) → 2 ≤ f → f ≤ 6 → P f DXT5)
-    (from7 : (f : ℕ) → 7 ≤ f → f ≤ 8 → P f DXN) (at9 : P 9 DXT5A) (from10 : (f : ℕ) → 10 ≤ f → P f unknown) where
+module _ (P : ℕ → Kind → Type 0) (at0 : P 0 DXT1) (at1 : P 1 Unknown) (from2 : (f : ℕ) → 2 ≤ f → f ≤ 6 → P f DXT5)
+    (from7 : (f : ℕ) → 7 ≤ f → f ≤ 8 → P f DXN) (at9 : P 9 DXT5A) (from10 : (f : ℕ) → 10 ≤ f → P f Unknown) where
   at : {f : ℕ} (n : ℕ) → n ≡ f → P n (kind_of n) → P f (kind_of f)
   at n e p = subst (λ (m : ℕ). P m (kind_of m)) e p
 
@@ -51,11 +53,11 @@ planes DXT1 = refl
 planes DXT5 = refl
 planes DXT5A = refl
 planes DXN = refl
-planes unknown = refl
+planes Unknown = refl
 
 pub bytes-at-most : (k : Kind) → block_bytes k ≤ 16
 bytes-at-most DXT1 = lit≤ tt
 bytes-at-most DXT5 = lit≤ tt
 bytes-at-most DXT5A = lit≤ tt
 bytes-at-most DXN = lit≤ tt
-bytes-at-most unknown = lit≤ tt
+bytes-at-most Unknown = lit≤ tt

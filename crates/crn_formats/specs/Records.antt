@@ -5,6 +5,7 @@ use Rattle.crn_format.specs.declared.Tables.{Tables}
 use Rattle.crn_format.specs.declared.Header.{Header}
 use Rattle.crn_format.specs.declared.Record.{Record}
 use Rattle.crn_formats.specs.declared.records.Counts.{Counts}
+use Rattle.crn_formats.specs.declared.records.CodeTables.{CodeTables}
 
 abbrev pub table_by : ℕ → List ℕ → Table
 table_by count lengths = record { count = count; lengths = lengths }
@@ -31,3 +32,10 @@ counts_of t =
       alpha_ends = t.alpha_endpoint_delta.count;
       alpha_sels = t.alpha_selector_delta.count;
     }
+
+-- the tables that a struct lends, and a record with them
+abbrev pub tables_lent : CodeTables → Tables
+tables_lent t = tables_by t.counts t.chunk.now t.color_ends.now t.color_sels.now t.alpha_ends.now t.alpha_sels.now
+
+abbrev pub record_lent : Header → CodeTables → Record
+record_lent h t = record { header = h; tables = tables_lent t }

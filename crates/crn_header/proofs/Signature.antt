@@ -1,37 +1,26 @@
--- A pair of bytes compared as a byte string is compared byte by byte.
-use Prim.Native.Nat.{ℕ, ◌≤◌, ◌<◌}
+-- A pair of bytes that a slice starts with.
+use Prim.Native.Nat.{ℕ}
 use mathlib.Core.Path.{◌≡◌, refl}
-use mathlib.Core.Bool.{Bool, true, false, false≢true}
+use mathlib.Core.Bool.{Bool, true, false, ◌&&◌}
 use mathlib.Core.List.{List, [], ◌∷◌}
-use native.Mathlib.Omega.{arith}
-use lib.ListN.{length, get_or, take, drop}
+use lib.ListN.{get_or}
 use lib.Dec.{eqb}
-use borrow.Author.Tests.{eqb-true, eq-eqb}
+use Rattle.std.specs.List.{starts_with}
+use Rattle.std.proofs.lemmas.Cmp.{nat_eq_equiv}
 use Rattle.crn_format.specs.Choice.{both}
 
-not-both : (p q : Bool) → (p ≡ true → q ≡ true → ⊥) → false ≡ both p q
-not-both true true h = absurd (h refl refl)
-not-both true false h = refl
-not-both false q h = refl
+grouped : (p q : Bool) → p && (q && true) ≡ both p q
+grouped true true = refl
+grouped true false = refl
+grouped false q = refl
 
--- `r` says whether the first two bytes are x and y
-pub two_bytes : (file : List ℕ) (x y : ℕ) (r : Bool) → 2 ≤ length file → (r ≡ true → take 2 (drop 0 file) ≡ x ∷ y ∷ [])
-    → (take 2 (drop 0 file) ≡ x ∷ y ∷ [] → r ≡ true) → r ≡ both (eqb (get_or file 0 0) x) (eqb (get_or file 1 0) y)
-two_bytes [] x y r long says said = let z : ⊥ = omega arith in absurd z
-two_bytes (a ∷ []) x y r long says said = let z : ⊥ = omega arith in absurd z
-two_bytes (a ∷ b ∷ rest) x y true long says said =
-    let e = says refl in
-    let p : a ≡ x = cc in
-    let q : b ≡ y = cc in
-    simp (eq-eqb a x p, eq-eqb b y q)
-two_bytes (a ∷ b ∷ rest) x y false long says said =
-    not-both (eqb a x) (eqb b y) λ p q.
-    let ax = eqb-true a x p in
-    let by = eqb-true b y q in
-    false≢true (said (cc))
+never : (p : Bool) → both p false ≡ false
+never true = refl
+never false = refl
 
--- of less than two bytes the second counts as 0
-pub unsigned : (file : List ℕ) (x y : ℕ) → (0 ≡ y → ⊥) → length file < 2 → false ≡ both (eqb (get_or file 0 0) x) (eqb (get_or file 1 0) y)
-unsigned [] x y other short = not-both (eqb 0 x) (eqb 0 y) λ p q. other (eqb-true 0 y q)
-unsigned (a ∷ []) x y other short = not-both (eqb a x) (eqb 0 y) λ p q. other (eqb-true 0 y q)
-unsigned (a ∷ b ∷ rest) x y other short = let z : ⊥ = omega arith in absurd z
+-- of less than two bytes the second counts as 0, which no signature has
+pub two_bytes : (file : List ℕ) (x y : ℕ) → eqb 0 y ≡ false
+    → starts_with eqb file (x ∷ y ∷ []) ≡ both (eqb (get_or file 0 0) x) (eqb (get_or file 1 0) y)
+two_bytes [] x y e = rw (e, never (eqb 0 x))
+two_bytes (a ∷ []) x y e = rw (e, nat_eq_equiv.symm x a)
+two_bytes (a ∷ b ∷ rest) x y e = rw (nat_eq_equiv.symm x a, nat_eq_equiv.symm y b) (grouped (eqb a x) (eqb b y))

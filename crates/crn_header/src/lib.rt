@@ -3,37 +3,24 @@
 
 ghost use Rattle.std.specs.Prelude.{◌≡◌};
 ghost use Rattle.crn_format.specs.Limits.{max_levels};
-ghost use Rattle.crn_format.specs.Header.{signed_in, field, part_at, offset_at, offsets_from, header_of};
+ghost use Rattle.crn_format.specs.Header.{signed_in, part_at, offset_at, offsets_from, header_of};
 
 use crn_format::{Header, Part};
-use crn_formats::{MAX_LEVELS, MIN_SIZE};
+use crn_formats::MIN_SIZE;
 use crn_utils::{big16, big24, big32, byte};
 
 // "The signature is the two bytes 48 78 (hex), compared as they stand": of a file of so many bytes that begins with these.
 pub fn is_signed(head: &[u8], length: usize) -> bool
     ensures { result ≡ signed_in head.now length }
 {
-    if length < MIN_SIZE {
-        return false;
-    }
-    if head.len() < 2 {
-        return false;
-    }
-    check::same(&head[0..2], b"Hx")
-}
-
-// A field of one byte.
-fn big8(file: &[u8], at: u32) -> u32
-    ensures { result ≡ field file.now at 1 }
-{
-    byte(file, at as usize)
+    (MIN_SIZE <= length) & head.starts_with(b"Hx")
 }
 
 // A palette: offset 3, size 3, count 2.
 fn part_at(file: &[u8], at: u8) -> Part
     ensures { result ≡ part_at file.now at }
 {
-    let at = at as u32;
+    let at = u32::from(at);
     Part {
         offset: big24(file, at),
         size: big24(file, at + 3),
@@ -45,31 +32,30 @@ fn part_at(file: &[u8], at: u8) -> Part
 fn offset_at(file: &[u8], levels: u32, i: u8) -> u32
     ensures { result ≡ offset_at file.now levels i }
 {
-    let i = i as u32;
+    let i = u32::from(i);
     if i < levels {
-        return big32(file, 70 + 4 * i);
+        big32(file, 70 + 4 * i)
+    } else {
+        0
     }
-    0
 }
 
 // The offsets of all levels that a header can hold.
 fn offsets(file: &[u8], levels: u32) -> [u32; 13]
     ensures { result ≡ offsets_from file.now levels 0 max_levels }
 {
-    let mut a = [0; 13];
-    let mut i = 0;
-    while i < MAX_LEVELS {
-        a[i as usize] = offset_at(file, levels, i);
-        i += 1;
+    let mut offsets = [0; 13];
+    for (i, offset) in offsets.iter_mut().enumerate() {
+        *offset = offset_at(file, levels, i as u8);
     }
-    a
+    offsets
 }
 
 // The fields as read.
 pub fn header_of(file: &[u8]) -> Header
     ensures { result ≡ header_of file.now }
 {
-    let levels = big8(file, 16);
+    let levels = byte(file, 16);
     Header {
         header_size: big16(file, 2),
         header_crc16: big16(file, 4),
@@ -78,8 +64,8 @@ pub fn header_of(file: &[u8]) -> Header
         width: big16(file, 12),
         height: big16(file, 14),
         levels: levels,
-        faces: big8(file, 17),
-        format: big8(file, 18),
+        faces: byte(file, 17),
+        format: byte(file, 18),
         flags: big16(file, 19),
         reserved: big32(file, 21),
         userdata0: big32(file, 25),

@@ -6,7 +6,8 @@ use native.Mathlib.Omega.{arith}
 use native.Mathlib.Decide.{dec_le}
 use lib.ListN.{length, length-append}
 use Rattle.crn_format.specs.Reading.{Step, got, refused, Place, start, from_bits}
-use Rattle.crn_format.specs.Header.{Kind, DXT1, DXT5, DXT5A, DXN, unknown}
+use Rattle.crn_format.specs.declared.Kind.{Kind}
+use Rattle.crn_format.specs.declared.Kind.TheVariants.{DXT1, DXT5, DXT5A, DXN, Unknown}
 use Rattle.crn_format.specs.Level.{Chunk}
 use Rattle.crn_format.specs.Grid.{Shade, color, alpha, half, block_at, painted}
 use Rattle.crn_format.specs.Unpacking.{planes_of, grid_of, unpacked, declined, cutout_count}
@@ -29,7 +30,7 @@ cutouts_by DXT1 block other same = cutouts-same block other same
 cutouts_by DXT5 block other same = refl
 cutouts_by DXT5A block other same = refl
 cutouts_by DXN block other same = refl
-cutouts_by unknown block other same = refl
+cutouts_by Unknown block other same = refl
 
 -- a block by its position and the script has a block's bytes
 halves_long : (ss : List Shade) (e s : ℕ → ℕ) (k : ℕ) → length (halves_by ss e s k) ≡ 8 * length ss

@@ -12,7 +12,9 @@ use Rattle.crn_format.specs.Limits.{all_room, max_symbols}
 use Rattle.crn_format.specs.Codes.{room, all_fit, longest, is_code}
 use Rattle.crn_format.specs.Reading.{a_symbol}
 use Rattle.crn_format.specs.Script.{Writable}
-use Rattle.crn_format.specs.Header.{Kind, DXT1, DXT5, DXT5A, DXN, unknown, kind_of}
+use Rattle.crn_format.specs.declared.Kind.{Kind}
+use Rattle.crn_format.specs.declared.Kind.TheVariants.{DXT1, DXT5, DXT5A, DXN, Unknown}
+use Rattle.crn_format.specs.Header.{kind_of}
 use Rattle.crn_format.specs.Level.{Plane}
 use Rattle.crn_format.specs.Unpacking.{lengths_of, table_holds, tables_hold, per_plane, planes_of}
 use Rattle.crn_format.specs.declared.Table.{Table}
@@ -106,7 +108,7 @@ planes_write DXT1 c a h g = h
 planes_write DXT5 c a h g = (g.0, (g.1.0, h))
 planes_write DXT5A c a h g = g
 planes_write DXN c a h g = (g.0, (g.1.0, g))
-planes_write unknown c a h g = tt
+planes_write Unknown c a h g = tt
 
 -- every symbol of a script can be written
 pub script_in_lem : (r : Record) (ds : List Draws) → tables_hold r.tables ≡ true → AllCoded

@@ -8,7 +8,7 @@ use lib.ListN.{length, get_or, drop}
 use lib.Dec.{ltb}
 use borrow.Author.Tests.{lt-ltb}
 use Rattle.crn_format.specs.Choice.{pick, either}
-use Rattle.crn_format.specs.Reading.{Reading, answer, refuse, next, symbol}
+use Rattle.crn_format.specs.Reading.{Reading, answer, refuse, next}
 use Rattle.crn_format.specs.Level.{Plane, stepped, endpoint_index, selector_index, endpoint_indices, plane_endpoints, plane_selectors, position_selectors, tile_counts, encoding, Running, Chunk, lasts, last_row, chunk, chunks, fresh, level}
 use Rattle.crn_laws.specs.Scripts.{Sent, sent, Draws, in_code, endpoints_sent, position_sent, selectors_sent, chunk_sent, level_sent, encodings, indices, endpoints_of, selectors_at, selectors_of, chunk_by, after, chunks_by, SymbolFits, AllBelow, EndpointsFit, PositionFits, SelectorsFit, ChunkFits, Fits}
 use Rattle.crn_laws.proofs.Following.{Follows, follow_next}

@@ -1,6 +1,7 @@
 -- A level that has passed the checks before its first draw: its scripts, and how many symbols they may have.
 use Rattle.std.specs.Prelude.{ℕ, ◌≤◌, ◌<◌, ◌≡◌, true, List, length}
-use Rattle.crn_format.specs.Header.{Kind, kind_of, within_limits}
+use Rattle.crn_format.specs.declared.Kind.{Kind}
+use Rattle.crn_format.specs.Header.{kind_of, within_limits}
 use Rattle.crn_format.specs.Opening.{Palettes}
 use Rattle.crn_format.specs.Grid.{Shade, chunk_count, insides}
 use Rattle.crn_format.specs.Unpacking.{lengths_of, tables_hold, level_stands, level_segment, palettes_reach, grid_of, grid_fits, reach, planes_of, shades_of, allowance, Unpacking, unpacked, declined, unpacking}

@@ -3,6 +3,7 @@ pub mod Entry
 pub mod Palettes
 pub mod Halves
 pub mod Steps
+pub mod Numbers
 pub mod Cursors
 pub mod Tables
 pub mod Reader

@@ -1,9 +1,10 @@
--- A chunk, its blocks, and a level's chunks. What is left open: the bits that a cursor has at hand, the indices of a plane that is not there, and what a level
--- that is refused has left in the grid's blocks, which are then cleared.
+-- A chunk, its blocks, and a level's chunks. What is left open: the bits that a cursor has at hand, the indices of a plane that is not
+-- there, and what a level that is refused has left in the grid's blocks, which are then cleared.
 use Prim.Native.Nat.{ℕ, ◌+◌, ◌-◌, ◌≤◌, ◌<◌}
 use mathlib.Core.Path.{◌≡◌, refl, sym, ◌∙◌}
 use mathlib.Core.Logic.{⊎_elim}
 use mathlib.Core.List.{List}
+use Rattle.std.specs.Prelude.{Ok, Err}
 use native.Mathlib.Omega.{arith}
 use lib.ListN.{length, get_or}
 use lib.Seq.{ext_get_or}
@@ -21,9 +22,7 @@ use Rattle.crn_blocks.proofs.Places.{below_or, apart, Same}
 use Rattle.crn_blocks.proofs.Bytes.{Holder, look}
 use Rattle.crn_blocks.proofs.Whole.{wiped}
 use Rattle.crn_chunk_blocks.proofs.blocks.Reads as blocks
-use Rattle.crn_unpacker.specs.Going.{Given, given, Fit, Goes, none, state_at}
-use Rattle.crn_unpacker.specs.declared.Went.{Went}
-use Rattle.crn_unpacker.specs.declared.Went.TheVariants.{On, Stopped}
+use Rattle.crn_unpacker.specs.Going.{Went, Given, given_in, Fit, Goes, none, state_at}
 use Rattle.crn_unpacker.proofs.Whole.{level_course, stands-first, through, early}
 use Rattle.crn_unpacker.proofs.paint.Reads as paint
 use Rattle.crn_laws_results.specs.Settled.{SettledIf, alike}
@@ -31,12 +30,14 @@ use Rattle.crn_laws_results.specs.Seen.{went, left}
 use Rattle.crn_laws_results.proofs.Steps.{got_or_refused}
 
 -- the chunk and what is carried on from it, with the place after it and the budget that is left; or the refusal
-pub read_chunk-settled : SettledIf (λ (lookup, (sorted, (seg, (ps, _)))) r. Served ps lookup.now sorted.now) read-chunk.Post
-    (λ (lookup, (sorted, (seg, (ps, _)))) r (_, (_, (_, (_, (_, (_, (_, (_, (out, _))))))))). chunked ps.two out.now r)
+pub read_chunk-settled : SettledIf (λ (supply, _) r. Served supply.now.planes supply.now.lookup.now supply.now.sorted.now)
+    read-chunk.Post
+    (λ (supply, _) r (_, (_, (_, (_, (_, (out, _)))))). chunked supply.now.planes.two out.now r)
 read_chunk-settled _ _ _ _ _ _ _ h _ p q = alike (p.same h.codes h.coded) (q.same h.codes h.coded)
 
-pub quick_read_chunk-settled : SettledIf (λ (lookup, (sorted, (seg, (ps, _)))) r. Served ps lookup.now sorted.now) quick-read-chunk.Post
-    (λ (lookup, (sorted, (seg, (ps, _)))) r (_, (_, (_, (_, (_, (_, (_, (_, (out, _))))))))). chunked ps.two out.now r)
+pub quick_read_chunk-settled : SettledIf (λ (supply, _) r. Served supply.now.planes supply.now.lookup.now supply.now.sorted.now)
+    quick-read-chunk.Post
+    (λ (supply, _) r (_, (_, (_, (_, (_, (out, _)))))). chunked supply.now.planes.two out.now r)
 quick_read_chunk-settled _ _ _ _ _ _ _ h _ p q = alike (p.same h.codes h.coded) (q.same h.codes h.coded)
 
 -- ---- a chunk's blocks
@@ -79,7 +80,7 @@ module _ {g : Grid} {value : ℕ → List ℕ} {a b : ℕ} {d e f : List ℕ} (r
       ext_get_or 0 e f (p.long ∙ sym q.long)
       (λ k _. ⊎_elim (held_by k) (λ free. both-kept k (λ i x y at _ _ w. free i x y at w)) (look room k))
 
-pub blocks-settled : SettledIf (λ (dst, (_, (_, (_, (_, (_, (_, (g, _)))))))) r. Room g (length dst.now)) blocks.Post (λ a r e. e.0.now)
+pub blocks-settled : SettledIf (λ (dst, (_, (_, (_, (g, _))))) r. Room g (length dst.now)) blocks.Post (λ a r e. e.0.now)
 blocks-settled _ _ _ _ _ _ _ room _ p q = painted_once room p q
 
 -- ---- a level's chunks
@@ -90,17 +91,17 @@ module _ (l : Given) (s : Stream) (d : List ℕ) (fit : Fit l (length d)) where
 
   state-is : {e : List ℕ} (w : Went) → Goes l 0 (chunk_count l.grid) none s d e w
       → state_at l (level_course l codes s) (chunk_count l.grid) ≡ went l.planes.two w
-  state-is (On r t) g = ((g.moved (level_course l codes s) (stands-first l codes s fit.served.coded)).on r t refl).state
-  state-is (Stopped x) g = ((g.moved (level_course l codes s) (stands-first l codes s fit.served.coded)).stop x refl).why
+  state-is (Ok (r, t)) g = ((g.moved (level_course l codes s) (stands-first l codes s fit.served.coded)).on r t refl).state
+  state-is (Err x) g = ((g.moved (level_course l codes s) (stands-first l codes s fit.served.coded)).stop x refl).why
 
   module _ {e f : List ℕ} where
     by : (w v : Went) → went l.planes.two w ≡ went l.planes.two v → Goes l 0 (chunk_count l.grid) none s d e w
         → Goes l 0 (chunk_count l.grid) none s d f v → left l.grid w e ≡ left l.grid v f
-    by (On r t) (On q u) same g h =
+    by (Ok (r, t)) (Ok (q, u)) same g h =
         alike (through g codes fit.served.coded fit refl).picture (through h codes fit.served.coded fit refl).picture
-    by (On r t) (Stopped x) same g h = absurd (got_or_refused same)
-    by (Stopped x) (On r t) same g h = absurd (got_or_refused (sym same))
-    by (Stopped x) (Stopped y) same g h =
+    by (Ok (r, t)) (Err x) same g h = absurd (got_or_refused same)
+    by (Err x) (Ok (r, t)) same g h = absurd (got_or_refused (sym same))
+    by (Err x) (Err y) same g h =
         alike (wiped fit.room (early g codes fit.served.coded refl).rest) (wiped fit.room (early h codes fit.served.coded refl).rest)
 
     goes-settled : (w v : Went) → Goes l 0 (chunk_count l.grid) none s d e w → Goes l 0 (chunk_count l.grid) none s d f v
@@ -110,8 +111,6 @@ module _ (l : Given) (s : Stream) (d : List ℕ) (fit : Fit l (length d)) where
         λ i. (same i, by w v same g h i)
 
 pub paint-settled : SettledIf {X = Step Spending Running × List ℕ}
-    (λ (dst, (lookup, (sorted, (seg, (cends, (csels, (aends, (asels, (ps, (g, _)))))))))) w.
-    Fit (given lookup.now sorted.now seg.now cends.now csels.now aends.now asels.now ps g) (length dst.now))
-    paint.Post (λ (_, (_, (_, (_, (_, (_, (_, (_, (ps, (g, _)))))))))) w (dst, _). (went ps.two w, left g w dst.now))
-paint-settled _ _ (dst, (lookup, (sorted, (seg, (cends, (csels, (aends, (asels, (ps, (g, (s, _))))))))))) w v _ _ fit _ p q =
-    goes-settled (given lookup.now sorted.now seg.now cends.now csels.now aends.now asels.now ps g) s dst.now fit w v p q
+    (λ (dst, (level, _)) w. Fit (given_in level.now) (length dst.now)) paint.Post
+    (λ (_, (level, _)) w (dst, _). (went level.now.supply.planes.two w, left level.now.grid w dst.now))
+paint-settled _ _ (dst, (level, (s, _))) w v _ _ fit _ p q = goes-settled (given_in level.now) s dst.now fit w v p q

@@ -5,6 +5,9 @@ use mathlib.Core.List.{List}
 use native.Mathlib.Omega.{arith}
 use lib.ListN.{length, get_or}
 use lib.Seq.{ext_get_or}
+use Rattle.std.specs.Prelude.{⊤}
+use Rattle.std.specs.declared.result.Result.{Result}
+use Rattle.crn_format.specs.declared.Refusal.{Refusal}
 use Rattle.bcn_rows.specs.Rows.{texel_of, row_of, texel_at, Filled}
 use Rattle.bcn_rows.specs.declared.Row.{Row}
 use Rattle.bcn_rows.specs.declared.Sixteen.{Sixteen}
@@ -20,6 +23,7 @@ use Rattle.bcn_blocks.proofs.block_texels.Reads as block-texels
 use Rattle.texels.proofs.texels.Reads as texels
 use Rattle.texels_abi.proofs.crunch_texels.Reads as crunch-texels
 use Rattle.crn_laws_results.specs.Settled.{Settled, SettledIf, the_answer, alike, alike₂}
+use Rattle.crn_laws_results.proofs.Numbers.{number_in_tells}
 use Rattle.crn_laws_results.proofs.Halves.{little_tells}
 
 -- ---- tables: an answer of so many numbers, each of which is fixed
@@ -101,8 +105,8 @@ block_texels-settled _ _ _ r s _ _ h k p q =
 pub put_row-settled : Settled put-row.Post (λ a r (dst, _). dst.now)
 put_row-settled _ _ _ _ _ _ _ p q = alike p q
 
-pub texels-settled : Settled {X = ℕ × List ℕ} texels.Post (λ a r (format, (face, (blocks, (dst, _)))). (r, dst.now))
-texels-settled _ _ _ _ _ _ _ p q = alike₂ p.number q.number p.left q.left
+pub texels-settled : Settled {X = Result ⊤ Refusal × List ℕ} texels.Post (λ a r (format, (face, (blocks, (dst, _)))). (r, dst.now))
+texels-settled _ _ _ r s _ _ p q = λ i. (number_in_tells r s (alike p.number q.number) i, alike p.left q.left i)
 
 pub crunch_texels-settled : Settled {X = ℕ × List ℕ} crunch-texels.Post (λ a r (format, (face, (blocks, (rgba, _)))). (r, rgba.now))
 crunch_texels-settled _ _ _ _ _ _ _ p q = alike₂ p.number q.number p.left q.left

@@ -1,7 +1,19 @@
 -- Functions whose contract names the value of their answer, or of what they leave in the lent slice.
 use Prim.Native.Nat.{ℕ, ◌/◌, ◌%◌, ◌<◌}
-use mathlib.Core.Path.{◌≡◌}
+use mathlib.Core.Path.{◌≡◌, sym, ap}
 use native.Mathlib.Omega.{arith}
+use Rattle.std.specs.Prelude.{Ok, Err}
+use Rattle.std.specs.declared.result.Result.{Result}
+use Rattle.crn_format.specs.Look.{looked}
+use Rattle.crn_format.specs.declared.Header.{Header}
+use Rattle.crn_format.specs.declared.Looked.{Looked}
+use Rattle.crn_format.specs.declared.Refusal.{Refusal}
+use Rattle.crn_format.proofs.Kind.has_color.Reads as kind-has-color
+use Rattle.crn_format.proofs.Kind.has_alpha.Reads as kind-has-alpha
+use Rattle.crn_format.proofs.Kind.is_known.Reads as kind-is-known
+use Rattle.crn_format.proofs.Kind.block_bytes.Reads as kind-block-bytes
+use Rattle.crn_format.proofs.KindFromU32.from.Reads as kind-from
+use Rattle.crn_format.proofs.U32FromRefusal.from.Reads as number-from
 use Rattle.crn_utils.proofs.limit.Reads as limit
 use Rattle.crn_utils.proofs.byte.Reads as byte
 use Rattle.crn_utils.proofs.big16.Reads as big16
@@ -41,13 +53,9 @@ use Rattle.crn_level_checks.proofs.level_start.Reads as level-start
 use Rattle.crn_level_checks.proofs.level_end.Reads as level-end
 use Rattle.crn_level_checks.proofs.level_stands.Reads as level-stands
 use Rattle.crn_level_checks.proofs.palettes_reach.Reads as palettes-reach
-use Rattle.crn_symbol_codec.proofs.refusal.Reads as refusal
 use Rattle.crn_symbol_codec.proofs.place.Reads as place
 use Rattle.crn_symbol_codec.proofs.entry.Reads as entry
 use Rattle.crn_static_huffman_data_model.proofs.is_code.Reads as is_code
-use Rattle.crn_palettes.proofs.wide.Reads as wide
-use Rattle.crn_palettes.proofs.clear32.Reads as clear32
-use Rattle.crn_palettes.proofs.clear16.Reads as clear16
 use Rattle.crn_blocks.proofs.put_eight.Reads as put-eight
 use Rattle.crn_blocks.proofs.clear.Reads as clear
 use Rattle.crn_blocks.proofs.cutouts.Reads as cutouts
@@ -59,6 +67,28 @@ use Rattle.crn_edits.proofs.edited.Reads as edited
 use Rattle.fnv.proofs.step.Reads as step
 use Rattle.draw_bench.proofs.sum_of_draws.Reads as sum-of-draws
 use Rattle.crn_laws_results.specs.Settled.{Settled, the_answer, alike}
+use Rattle.crn_format.proofs.Numbers.{number-one}
+use Rattle.crn_laws_results.proofs.Numbers.{some_number}
+
+-- ---- crn_format: a kind of block, by its number and by its properties, and a refusal's number
+
+pub kind_from-settled : Settled kind-from.Post the_answer
+kind_from-settled _ _ _ _ _ _ _ p q = alike p q
+
+pub kind_has_color-settled : Settled kind-has-color.Post the_answer
+kind_has_color-settled _ _ _ _ _ _ _ p q = alike p q
+
+pub kind_has_alpha-settled : Settled kind-has-alpha.Post the_answer
+kind_has_alpha-settled _ _ _ _ _ _ _ p q = alike p q
+
+pub kind_is_known-settled : Settled kind-is-known.Post the_answer
+kind_is_known-settled _ _ _ _ _ _ _ p q = alike p q
+
+pub kind_block_bytes-settled : Settled kind-block-bytes.Post the_answer
+kind_block_bytes-settled _ _ _ _ _ _ _ p q = alike p q
+
+pub number_from-settled : Settled number-from.Post the_answer
+number_from-settled _ _ _ _ _ _ _ p q = alike p q
 
 -- ---- crn_utils
 
@@ -165,11 +195,18 @@ within_limits-settled _ _ _ _ _ _ _ p q = alike p q
 pub sizes_hold-settled : Settled sizes-hold.Post the_answer
 sizes_hold-settled _ _ _ _ _ _ _ p q = alike p q
 
+-- a look by its number and its header tells the answer
+looked_tells : (r s : Result Header Refusal) → looked r ≡ looked s → r ≡ s
+looked_tells (Ok h) (Ok g) e = λ i. Ok (e i).header
+looked_tells (Ok h) (Err n) e = absurd (some_number n (sym (ap (λ (x : Looked). x.refusal) e)))
+looked_tells (Err m) (Ok g) e = absurd (some_number m (ap (λ (x : Looked). x.refusal) e))
+looked_tells (Err m) (Err n) e = ap Err (number-one (ap (λ (x : Looked). x.refusal) e))
+
 pub look-settled : Settled look.Post the_answer
-look-settled _ _ _ _ _ _ _ p q = alike p q
+look-settled _ _ _ r s _ _ p q = looked_tells r s (alike p q)
 
 pub look_at-settled : Settled look_at.Post the_answer
-look_at-settled _ _ _ _ _ _ _ p q = alike p q
+look_at-settled _ _ _ r s _ _ p q = looked_tells r s (alike p q)
 
 pub agrees-settled : Settled agrees.Post the_answer
 agrees-settled _ _ _ _ _ _ _ p q = alike p q
@@ -208,9 +245,6 @@ palettes_reach-settled _ _ _ _ _ _ _ p q = alike p q
 
 -- ---- crn_symbol_codec, crn_static_huffman_data_model: those that answer no cursor
 
-pub refusal-settled : Settled refusal.Post the_answer
-refusal-settled _ _ _ _ _ _ _ p q = alike p q
-
 pub place-settled : Settled place.Post the_answer
 place-settled _ _ _ _ _ _ _ p q = alike p q
 
@@ -220,16 +254,7 @@ entry-settled _ _ _ _ _ _ _ p q = alike p q
 pub is_code-settled : Settled is_code.Post the_answer
 is_code-settled _ _ _ _ _ _ _ p q = alike p q
 
--- ---- crn_palettes, crn_blocks: a byte, lent slices
-
-pub wide-settled : Settled wide.Post the_answer
-wide-settled _ _ _ _ _ _ _ p q = alike p.0 q.0
-
-pub clear32-settled : Settled clear32.Post (λ a r e. e.0.now)
-clear32-settled _ _ _ _ _ _ _ p q = alike p q
-
-pub clear16-settled : Settled clear16.Post (λ a r e. e.0.now)
-clear16-settled _ _ _ _ _ _ _ p q = alike p q
+-- ---- crn_blocks: a lent slice
 
 pub put_eight-settled : Settled put-eight.Post (λ a r e. e.0.now)
 put_eight-settled _ _ _ _ _ _ _ p q = alike p q

@@ -5,7 +5,8 @@ use mathlib.Core.Path.{◌≡◌, refl, sym, ◌∙◌}
 use native.Mathlib.Omega.{arith}
 use lib.ListN.{length, get_or, drop, length-drop}
 use lib.Seq.{length-take-le, get_or-take, get_or-drop, ext_get_or}
-use Rattle.crn_format.specs.Header.{Kind, DXT1, DXT5, DXT5A, DXN, unknown}
+use Rattle.crn_format.specs.declared.Kind.{Kind}
+use Rattle.crn_format.specs.declared.Kind.TheVariants.{DXT1, DXT5, DXT5A, DXN, Unknown}
 use Rattle.crn_format.specs.Grid.{place_of}
 use Rattle.crn_format.specs.Unpacking.{cutout_count}
 use Rattle.crn_format.specs.declared.Grid.{Grid}
@@ -31,4 +32,4 @@ module _ {g : Grid} {b a : List ℕ} (block : ℕ → ℕ → ℕ → List ℕ) 
   same_count DXT5 = refl
   same_count DXT5A = refl
   same_count DXN = refl
-  same_count unknown = refl
+  same_count Unknown = refl

@@ -132,7 +132,7 @@ module _ (r : Record) (file : List ℕ) (p : Palettes) (n pitch distance budget 
   pub has_room : within_limits h ≡ true → tables_hold r.tables ≡ true → ltb n h.levels ≡ true → level_stands file h n ≡ true →
       palettes_reach h p ≡ true
       → grid_fits g ≡ true → leb (reach g) (length dst) ≡ true → Room (grid_of r.header n pitch distance) (length dst)
-  has_room e₁ e₂ e₃ e₄ e₅ e₆ e₇ = (all-checked r file p n pitch distance (length dst) refl none refl {seg = []} (omega arith) refl).room
+  has_room e₁ e₂ e₃ e₄ e₅ e₆ e₇ = (all-checked r file p n pitch distance (length dst) refl none {seg = []} (omega arith) refl).room
     where
       none : 0 ≡ refusal_by h (tables_hold r.tables) file p n pitch distance (length dst)
       none = unfold first_failed in simp (e₁, e₂, e₃, e₄, e₅, e₆, e₇)

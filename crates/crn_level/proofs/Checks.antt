@@ -3,7 +3,7 @@ use Prim.Native.Nat.{ℕ, ◌*◌, ◌/◌, ◌%◌, ◌^◌, ◌≤◌, ◌<◌
 use mathlib.Core.Bool.{Bool, true, false, false≢true}
 use mathlib.Core.Logic.{◌⊎◌, inl, inr}
 use mathlib.Core.List.{List}
-use mathlib.Core.Path.{◌≡◌, refl, sym, ap, subst, ◌∙◌}
+use mathlib.Core.Path.{◌≡◌, refl, sym, ap, ◌∙◌}
 use native.Mathlib.Omega.{arith}
 use native.Mathlib.Nat.{div-le_self}
 use lib.ListN.{length, take, drop, length-take, length-drop}
@@ -11,20 +11,23 @@ use lib.Dec.{leb, ltb, eqb}
 use borrow.Author.Tests.{leb-true, ltb-true}
 use Rattle.crn_format.specs.Choice.{pick}
 use Rattle.crn_format.specs.Limits.{max_side, too_long}
-use Rattle.crn_format.specs.Header.{Kind, DXT1, DXT5, DXT5A, DXN, unknown, kind_of, known, block_bytes, within_limits}
+use Rattle.crn_format.specs.declared.Kind.{Kind}
+use Rattle.crn_format.specs.declared.Kind.TheVariants.{DXT1, DXT5, DXT5A, DXN, Unknown}
+use Rattle.crn_format.specs.Header.{kind_of, known, block_bytes, within_limits}
 use Rattle.crn_format.specs.Grid.{pixels, blocks}
 use Rattle.crn_format.specs.Opening.{Palettes}
 use Rattle.crn_format.specs.Unpacking.{Unpacking, declined, tables_hold, level_start, level_end, level_stands, level_segment, palettes_reach, grid_of, grid_fits, reach, drawn_level, unpacking}
+use Rattle.crn_format.specs.Refusals.{number_of}
 use Rattle.crn_format.specs.declared.Header.{Header}
+use Rattle.crn_format.specs.declared.Refusal.{Refusal}
 use Rattle.crn_format.specs.declared.Record.{Record}
 use Rattle.crn_format.specs.declared.Grid.{Grid}
 use Rattle.crn_blocks.specs.Sheet.{Room}
-use Rattle.crn_drawing.specs.declared.Unpacked.{Unpacked}
-use Rattle.crn_drawing.specs.declared.Unpacked.TheVariants.{Refused}
-use Rattle.crn_drawing.specs.Unpacks.{answer_of, Unpacks}
+use Rattle.crn_drawing.specs.Unpacks.{Drawn, answer_of, Unpacks}
 use Rattle.crn_drawing.specs.Levels.{Checked}
-use Rattle.crn_level.specs.Refusals.{first_failed, refusal_by}
+use Rattle.crn_level.specs.Refusals.{first_failed, refusal_by, refused}
 use Rattle.crn_format.proofs.Choices.{both_hold}
+use Rattle.crn_format.proofs.Numbers.{number-above}
 use Rattle.crn_format.proofs.Passing.{Passed, LevelPassed, passed-drawn}
 use Rattle.crn_formats.proofs.Limited.{Limited, limited}
 
@@ -81,7 +84,7 @@ eight_or_sixteen DXT1 e = inl refl
 eight_or_sixteen DXT5 e = inr refl
 eight_or_sixteen DXT5A e = inl refl
 eight_or_sixteen DXN e = inr refl
-eight_or_sixteen unknown e = absurd (false≢true e)
+eight_or_sixteen Unknown e = absurd (false≢true e)
 
 room_of : (h : Header) (level pitch distance n : ℕ) → Limited h → grid_fits (grid_of h level pitch distance) ≡ true
     → leb (reach (grid_of h level pitch distance)) n ≡ true → Room (grid_of h level pitch distance) n
@@ -120,57 +123,48 @@ inside file h level e =
 -- ---- of a level
 
 module _ (r : Record) (file : List ℕ) (p : Palettes) (level pitch distance n : ℕ) {tables : Bool} (holds : tables ≡ tables_hold r.tables)
-    {m : ℕ}
-    (is : m ≡ refusal_by r.header tables file p level pitch distance n) where
-  found : m ≡ refusal_by r.header (tables_hold r.tables) file p level pitch distance n
-  found = rw holds at is
+    (is : 0 ≡ refusal_by r.header tables file p level pitch distance n) where
+  all : LevelPassed r file p level pitch distance n
+  all = passed _ _ _ _ _ _ _ (sym (rw holds at is))
 
-  module _ (z : m ≡ 0) where
-    all : LevelPassed r file p level pitch distance n
-    all = passed _ _ _ _ _ _ _ (sym found ∙ z)
+  pub stands_so : level_stands file r.header level ≡ true
+  stands_so = all.stands
 
-    pub stands_so : level_stands file r.header level ≡ true
-    stands_so = all.stands
-
-    pub all-checked : {seg : List ℕ} → length seg < too_long → {q : Grid} → q ≡ grid_of r.header level pitch distance → Checked r seg p q n
-    all-checked short e =
-        rw e (record {
-          within = all.limits;
-          tables = all.tables;
-          short = short;
-          palettes = all.palettes;
-          bytes = unfold grid_of in refl;
-          room = room_of r.header level pitch distance n (limited r.header all.limits) all.grid all.room;
-        })
+  pub all-checked : {seg : List ℕ} → length seg < too_long → {q : Grid} → q ≡ grid_of r.header level pitch distance → Checked r seg p q n
+  all-checked short e =
+      rw e (record {
+        within = all.limits;
+        tables = all.tables;
+        short = short;
+        palettes = all.palettes;
+        bytes = unfold grid_of in refl;
+        room = room_of r.header level pitch distance n (limited r.header all.limits) all.grid all.room;
+      })
 
 module _ (r : Record) (file : List ℕ) (p : Palettes) (level pitch distance budget : ℕ) (d : List ℕ) {tables : Bool}
-    (holds : tables ≡ tables_hold r.tables) {m : ℕ}
-    (is : m ≡ refusal_by r.header tables file p level pitch distance (length d)) where
-  declined_so : (m ≡ 0 → ⊥) → unpacking r file p level pitch distance budget d ≡ declined m 0 0 d
-  unfolding unpacking
-  declined_so ne =
-      failing (within_limits r.header) (tables_hold r.tables) (ltb level r.header.levels) (level_stands file r.header level)
-      (palettes_reach r.header p)
-      (grid_fits (grid_of r.header level pitch distance)) (leb (reach (grid_of r.header level pitch distance)) (length d))
-      (λ n. declined n 0 0 d)
-      (drawn_level r (level_segment file r.header level) p (grid_of r.header level pitch distance) budget d)
-      (λ z. ne (found r file p level pitch distance (length d) holds is ∙ z))
-      ∙ ap (λ (n : ℕ). declined n 0 0 d) (sym (found r file p level pitch distance (length d) holds is))
+    (holds : tables ≡ tables_hold r.tables) where
+  pub refused-before : {k : Refusal} → number_of k ≡ refusal_by r.header tables file p level pitch distance (length d)
+      → Unpacks (unpacking r file p level pitch distance budget d) budget budget d (refused k)
+  unfolding answer_of unpacking
+  refused-before {k} is =
+      let found = rw holds at is in
+      let some : 0 < number_of k = number-above k in
+      record {
+        answer = ap (λ (n : ℕ). declined n 0 0 d) found ∙ sym (failing (within_limits r.header) (tables_hold r.tables)
+            (ltb level r.header.levels) (level_stands file r.header level) (palettes_reach r.header p)
+            (grid_fits (grid_of r.header level pitch distance)) (leb (reach (grid_of r.header level pitch distance)) (length d))
+            (λ n. declined n 0 0 d)
+            (drawn_level r (level_segment file r.header level) p (grid_of r.header level pitch distance) budget d)
+            (λ z. omega arith));
+        spent = omega arith;
+      }
 
-  pub refused-before : (m ≡ 0 → ⊥) → Unpacks (unpacking r file p level pitch distance budget d) budget budget d (Refused m 0 0)
-  unfolding answer_of
-  refused-before ne = record { answer = sym (declined_so ne); spent = omega arith }
-
-  module _ (z : m ≡ 0) where
+  module _ (is : 0 ≡ refusal_by r.header tables file p level pitch distance (length d)) where
     drawn_so : unpacking r file p level pitch distance budget d
         ≡ drawn_level r (level_segment file r.header level) p (grid_of r.header level pitch distance) budget d
-    drawn_so = passed-drawn r file p level pitch distance budget d (all r file p level pitch distance (length d) holds is z)
+    drawn_so = passed-drawn r file p level pitch distance budget d (all r file p level pitch distance (length d) holds is)
 
     pub then-level : {seg : List ℕ} → seg ≡ level_segment file r.header level → {q : Grid} → q ≡ grid_of r.header level pitch distance
-        → {left : ℕ} {e : List ℕ} {u : Unpacked} → Unpacks (drawn_level r seg p q budget d) budget left e u
+        → {left : ℕ} {e : List ℕ} {u : Drawn} → Unpacks (drawn_level r seg p q budget d) budget left e u
         → Unpacks (unpacking r file p level pitch distance budget d) budget left e u
-    then-level {seg} es {q} eg {left} {e} {u} o =
-        subst (λ (x : Unpacking). Unpacks x budget left e u)
-        (ap (λ (s : List ℕ). drawn_level r s p q budget d) es
-        ∙ ap (λ (k : Grid). drawn_level r (level_segment file r.header level) p k budget d) eg ∙ sym drawn_so)
-        o
+    then-level es eg o = rw (drawn_so, ← es, ← eg) o

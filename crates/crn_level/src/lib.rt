@@ -3,5 +3,5 @@
 
 mod unpacking;
 
-pub use crn_drawing::Unpacked;
+pub use crn_drawing::{Drawn, Refused, Unpacked};
 pub use unpacking::{unpack_level, unpack_level_by, unpack_made};

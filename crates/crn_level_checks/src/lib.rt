@@ -2,41 +2,29 @@
 // (refusal 5). A handed header may hold anything.
 #![tactic(auto)]
 
-ghost use Rattle.std.specs.Prelude.{◌≡◌, get_or};
+ghost use Rattle.std.specs.Prelude.{◌≡◌};
 ghost use Rattle.crn_format.specs.Unpacking.{level_start, level_end, level_stands, palettes_reach};
-ghost use Rattle.crn_formats.specs.Lent.{lent_of};
+ghost use Rattle.crn_formats.specs.Lent.{lent};
 
 use crn_format::Header;
-use crn_formats::{MAX_LEVELS, TOO_LONG, has_alpha, has_color, implies};
+use crn_formats::{Palettes, TOO_LONG, has_alpha, has_color, implies};
 
-// The offset of a level, 0 beyond the last that a header can hold.
-fn offset_of(offsets: [u32; 13], level: usize) -> u32
-    ensures { result ≡ get_or offsets level 0 }
-{
-    if level < MAX_LEVELS as usize {
-        return offsets[level];
-    }
-    0
-}
-
-// Where a level's segment begins.
+// Where a level's segment begins: at its offset, 0 beyond the last that a header can hold.
 pub fn level_start(h: Header, level: u32) -> usize
     ensures { result ≡ level_start h level }
 {
-    let offsets = h.level_offsets;
-    offset_of(offsets, level as usize) as usize
+    h.level_offsets.get(level as usize).copied().unwrap_or(0) as usize
 }
 
-// Where it ends: at the next level's offset, the last level's at the end of the file.
+// Where it ends: where the next level begins, the last level's at the end of the file.
 pub fn level_end(file: &[u8], h: Header, level: u32) -> usize
     ensures { result ≡ level_end file.now h level }
 {
-    let next = level as usize + 1;
-    if next < h.levels as usize {
-        let offsets = h.level_offsets;
-        return offset_of(offsets, next) as usize;
+    if level as usize + 1 < h.levels as usize {
+        level_start(h, level + 1)
+    } else {
+        file.len()
     }
-    file.len()
 }
 
 // The segment is not empty and lies in the file, which is 4,294,967,295 bytes long at most.
@@ -49,26 +37,22 @@ pub fn level_stands(file: &[u8], h: Header, level: u32) -> bool
 }
 
 // The palettes that the format uses are long enough; an alpha selector is three words.
-pub fn palettes_reach(
-    h: Header,
-    color_endpoints: &[u32],
-    color_selectors: &[u32],
-    alpha_endpoints: &[u16],
-    alpha_selectors: &[u16],
-) -> bool
-    ensures { result ≡ palettes_reach h (lent_of color_endpoints.now color_selectors.now alpha_endpoints.now alpha_selectors.now) }
+pub fn palettes_reach(h: Header, palettes: &Palettes) -> bool
+    ensures { result ≡ palettes_reach h (lent palettes.now) }
 {
     let color = has_color(h.format);
     let alpha = has_alpha(h.format);
-    let color_ends = h.color_endpoints;
-    let color_sels = h.color_selectors;
-    let alpha_ends = h.alpha_endpoints;
-    let alpha_sels = h.alpha_selectors;
-    implies(color, color_ends.count as usize <= color_endpoints.len())
-        & implies(color, color_sels.count as usize <= color_selectors.len())
-        & implies(alpha, alpha_ends.count as usize <= alpha_endpoints.len())
-        & implies(
-            alpha,
-            3 * alpha_sels.count as usize <= alpha_selectors.len(),
-        )
+    implies(
+        color,
+        h.color_endpoints.count as usize <= palettes.color_endpoints.len(),
+    ) & implies(
+        color,
+        h.color_selectors.count as usize <= palettes.color_selectors.len(),
+    ) & implies(
+        alpha,
+        h.alpha_endpoints.count as usize <= palettes.alpha_endpoints.len(),
+    ) & implies(
+        alpha,
+        3 * h.alpha_selectors.count as usize <= palettes.alpha_selectors.len(),
+    )
 }

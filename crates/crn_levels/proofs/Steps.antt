@@ -1,29 +1,42 @@
 -- One level more: from how far it has come to how far it comes, or to its refusal.
+use Rattle.std.specs.Prelude.{Ok, Err}
 use Prim.Native.Nat.{ℕ, suc, ◌+◌, ◌-◌, ◌≤◌, ◌<◌}
 use mathlib.Core.Path.{◌≡◌, refl, sym, ap, ◌∙◌}
-use mathlib.Core.Bool.{true, false}
+use mathlib.Core.Bool.{Bool, true, false}
 use mathlib.Core.List.{List, [], ◌++◌, append-nil}
 use native.Mathlib.Omega.{arith}
 use lib.ListN.{length, take, drop, length-drop}
 use lib.Seq.{take_all, drop-length}
 use borrow.Author.Tests.{leb-true, le-ltb}
 use borrow.Rule.Slice.PartMut.{put_mid}
-use Rattle.crn_format.specs.Header.{within_limits}
+use Rattle.crn_format.specs.Header.{kind_of, has_color, has_alpha, within_limits}
 use Rattle.crn_format.specs.Opening.{Palettes}
 use Rattle.crn_format.specs.Unpacking.{Unpacking, unpacked, declined, tables_hold, grid_of, reach, unpacking}
+use Rattle.crn_format.specs.Refusals.{number_of}
 use Rattle.crn_format.specs.declared.Header.{Header}
+use Rattle.crn_format.specs.declared.Kind.{Kind}
+use Rattle.crn_format.specs.declared.Refusal.{Refusal}
+use Rattle.crn_format.specs.declared.Refusal.TheVariants.{BeyondLimits, NoCode, NoLevel}
 use Rattle.crn_format.specs.declared.Record.{Record}
 use Rattle.crn_format.specs.declared.Grid.{Grid}
 use Rattle.crn_format.proofs.Passing.{accepted-passed}
+use Rattle.crn_formats.specs.Records.{tables_lent, record_lent}
+use Rattle.crn_formats.specs.declared.records.CodeTables.{CodeTables}
+use Rattle.crn_decoders.specs.Tables.{Able, CodedTo, codes_of, tables_in}
+use Rattle.crn_decoders.specs.declared.decoders.Sizes.{Sizes}
+use Rattle.crn_decoders.proofs.Made.{able-kept}
 use Rattle.crn_drawing.specs.Unpacks.{answer_of, Unpacks}
-use Rattle.crn_drawing.specs.declared.Unpacked.TheVariants.{Blocks, Refused}
+use Rattle.crn_drawing.specs.Levels.{Made}
+use Rattle.crn_drawing.proofs.ByRecord.{ready_by}
+use Rattle.crn_drawing.specs.declared.Unpacked.{Unpacked}
+use Rattle.crn_drawing.specs.declared.Refused.{Refused}
 use Rattle.crn_sizes.specs.Sizes.{level_sizes, close_sizes}
 use Rattle.crn_sizes.specs.declared.LevelSizes.{LevelSizes}
 use Rattle.crn_sizes.proofs.Counts.{most_cutouts, cutouts-few}
 use Rattle.crn_sizes.proofs.Enough.{sizes_so, bytes_needed}
 use Rattle.crn_levels.specs.declared.Several.{Several}
 use Rattle.crn_levels.specs.Several.{Far, Ended, begun, further, onward, several_from, several_of, Gives}
-use Rattle.crn_levels.specs.Answers.{none_by}
+use Rattle.crn_levels.specs.Answers.{stopped_by, none_by}
 
 -- ---- a level that went through
 
@@ -48,10 +61,10 @@ module _ (r : Record) (file : List ℕ) (p : Palettes) (n budget : ℕ) (dst : L
         cutouts-few r file p n z.pitch z.distance budget dst s c e h,
       )
 
-  pub went : {left s c : ℕ} {e : List ℕ} → Unpacks (unpacking r file p n z.pitch z.distance budget dst) budget left e (Blocks s c)
-      → (z.bytes ≤ length dst) × (c ≤ most_cutouts)
+  pub went : {left : ℕ} {u : Unpacked} {e : List ℕ} → Unpacks (unpacking r file p n z.pitch z.distance budget dst) budget left e (Ok u)
+      → (z.bytes ≤ length dst) × (u.cutouts ≤ most_cutouts)
   unfolding answer_of
-  went {s = s} {c = c} {e = e} o = through s c e (sym o.answer)
+  went {u = u} {e = e} o = through u.symbols u.cutouts e (sym o.answer)
 
 -- ---- the definition's step
 
@@ -92,21 +105,20 @@ module _ (r : Record) (file : List ℕ) (p : Palettes) (f : Far) (dst : List ℕ
   unfolding several_from
   stepped e = rw (more, e, is, last)
 
-  pub on : {left s c : ℕ} {e after : List ℕ} {f' : Far} → further f z.bytes s c ≡ f' → after ≡ take f.from dst ++ e → Unpacks answer f.left
-      left e (Blocks s c)
+  pub on : {left : ℕ} {u : Unpacked} {e after : List ℕ} {f' : Far} → further f z.bytes u.symbols u.cutouts ≡ f'
+      → after ≡ take f.from dst ++ e → Unpacks answer f.left left e (Ok u)
       → several_from m r file p f dst ≡ several_from n r file p f' after
   unfolding onward answer_of
   on next put o = rw (sym next, put) (stepped o.answer)
 
-  pub off : {all left k s b : ℕ} {e after : List ℕ} → f.symbols + f.left ≡ all → after ≡ take f.from dst ++ e → Unpacks answer f.left left e
-      (Refused k s b)
-      → Gives (several_from m r file p f dst) left after (record
-      { refusal = k; at = b; levels = f.levels; symbols = all - left; cutouts = f.cutouts })
+  pub off : {all left : ℕ} {x : Refused} {e after : List ℕ} → f.symbols + f.left ≡ all → after ≡ take f.from dst ++ e
+      → Unpacks answer f.left left e (Err x)
+      → Gives (several_from m r file p f dst) left after (stopped_by x f.levels (all - left) f.cutouts)
   unfolding onward answer_of
-  off {all} {left} {k} {s} {b} whole put o =
-      let drawn : all - left ≡ f.symbols + s = omega (arith, o.spent) in
+  off {all} {left} {x} {e} {after} whole put o =
+      let drawn : all - left ≡ f.symbols + x.symbols = omega (arith, o.spent) in
       rw (stepped o.answer) (record {
-        answer = λ i. record { refusal = k; at = b; levels = f.levels; symbols = drawn i; cutouts = f.cutouts };
+        answer = λ i. stopped_by x f.levels (drawn i) f.cutouts;
         budget = omega (arith, o.spent);
         leaves = put;
       })
@@ -133,31 +145,46 @@ pub all-through : (r : Record) (file : List ℕ) (p : Palettes) (f : Far) (dst :
 unfolding several_from
 all-through r file p f dst e = rw e (record { answer = refl; budget = refl; leaves = refl })
 
+-- ---- the tables that were made
+
+-- two arrays that have kept their lengths hold the decoder tables of a lent record
+pub made-lent : (h : Header) (t : CodeTables) {s : Sizes} {m n : ℕ} {lookup sorted : List ℕ} {kind : Kind} {color alpha : Bool}
+    → within_limits h ≡ true → tables_hold (tables_lent t) ≡ true → Able s m n → length lookup ≡ m → length sorted ≡ n
+    → kind ≡ kind_of h.format → color ≡ has_color kind → alpha ≡ has_alpha kind
+    → CodedTo (codes_of alpha (tables_lent t)) (tables_in color alpha) s lookup sorted → Made (record_lent h t) s lookup sorted
+made-lent h t within holds able e f is is-color is-alpha coded =
+    record {
+      within = within;
+      tables = holds;
+      able = able-kept able e f;
+      coded = ready_by (record_lent h t) (is-color ∙ ap has_color is) (is-alpha ∙ ap has_alpha is) refl coded;
+    }
+
 -- ---- the first level is refused before the tables are made
 
 module _ (r : Record) (file : List ℕ) (p : Palettes) (first budget : ℕ) (dst : List ℕ) where
   abbrev firstly : Unpacking
   firstly = unpacking r file p first (level_sizes r.header first).pitch (level_sizes r.header first).distance budget dst
 
-  none-at : (m : ℕ) → firstly ≡ declined m 0 0 dst → {a : Several} → a ≡ none_by m → Gives (several_of r file p first budget dst) budget dst
-      a
+  none-at : (k : Refusal) → firstly ≡ declined (number_of k) 0 0 dst → {a : Several} → a ≡ none_by (number_of k)
+      → Gives (several_of r file p first budget dst) budget dst a
   unfolding answer_of
-  none-at m e i =
+  none-at k e i =
       let z : 0 ≡ budget - budget = omega arith in
-      from_start refl (i ∙ (λ j. record { refusal = m; at = 0; levels = 0; symbols = z j; cutouts = 0 }))
+      from_start refl (i ∙ ap (λ (s : ℕ). stopped_by (record { refusal = k; symbols = 0; at = 0 }) 0 s 0) z)
       (off r file p (begun first budget) dst (r.header.levels - suc first) refl refl refl (omega arith) refl
       (record { answer = sym e; spent = omega arith }))
 
   pub none_2 : within_limits r.header ≡ false → {a : Several} → a ≡ none_by 2 → Gives (several_of r file p first budget dst) budget dst a
-  none_2 e = none-at 2 (unfold unpacking in rw e)
+  none_2 e = none-at BeyondLimits (unfold unpacking in rw e)
 
   pub none_6 : within_limits r.header ≡ true → tables_hold r.tables ≡ false → {a : Several} → a ≡ none_by 6 → Gives
       (several_of r file p first budget dst) budget dst a
-  none_6 w e = none-at 6 (unfold unpacking in rw (w, e))
+  none_6 w e = none-at NoCode (unfold unpacking in rw (w, e))
 
   pub none_10 : within_limits r.header ≡ true → tables_hold r.tables ≡ true → r.header.levels ≤ first → {a : Several} → a ≡ none_by 10
       → Gives (several_of r file p first budget dst) budget dst a
-  none_10 w h e = none-at 10 (unfold unpacking in rw (w, h, le-ltb _ _ e))
+  none_10 w h e = none-at NoLevel (unfold unpacking in rw (w, h, le-ltb _ _ e))
 
   -- or it is there
   pub some : first < r.header.levels → {left : ℕ} {after : List ℕ} {a : Several} → Gives

@@ -4,26 +4,18 @@ use mathlib.Core.Bool.{Bool, true}
 use mathlib.Core.List.{List}
 use mathlib.Core.Path.{◌≡◌, sym, ap, ◌∙◌}
 use native.Mathlib.Omega.{arith}
-use lib.ListN.{length, drop, length-drop}
-use lib.Seq.{length-take-le}
+use lib.ListN.{length}
 use lib.Dec.{leb, ltb}
 use borrow.Author.Tests.{leb-true, ltb-true, lt-ltb}
 use Rattle.crn_format.specs.Choice.{pick, both}
 use Rattle.crn_format.specs.Limits.{max_entries, too_long}
 use Rattle.crn_format.specs.Header.{sizes_in}
-use Rattle.crn_format.specs.Opening.{Palettes, of_plane, stands, part_stands, segment, segments_stand, room_for}
+use Rattle.crn_format.specs.Opening.{Palettes, of_plane, stands, part_stands, segments_stand, room_for}
 use Rattle.crn_format.specs.declared.Part.{Part}
 use Rattle.crn_format.specs.declared.Header.{Header}
 use Rattle.crn_format.proofs.Choices.{both_hold}
 use Rattle.crn_formats.proofs.Limited.{Limited, limited}
 use Rattle.crn_opening.specs.Streams.{Passed, PlaneFits}
-
--- a part of a file is no longer than the file
-pub segment-short : (file : List ℕ) (offset size : ℕ) → offset + size ≤ length file → length (segment file offset size) ≤ length file
-segment-short file offset size h =
-    let d = length-drop offset file in
-    let t = length-take-le size (drop offset file) (omega arith) in
-    omega arith
 
 -- what holds of both palettes of a plane that is present
 planes : (p : Part) (a b : Bool) → of_plane p a b ≡ true → 0 < p.count → (a ≡ true) × (b ≡ true)

@@ -5,76 +5,63 @@ use mathlib.Core.List.{List}
 use mathlib.Core.Path.{◌≡◌, refl, sym, ap, subst, ◌∙◌}
 use native.Mathlib.Omega.{arith}
 use lib.ListN.{length}
-use borrow.Author.Tests.{eq-eqb}
-use Rattle.crn_format.specs.Reading.{start, run, from_bits}
+use Rattle.std.specs.Prelude.{Ok, Err}
+use Rattle.std.specs.Result.{is_err}
+use Rattle.std.specs.declared.result.Result.{Result}
+use Rattle.crn_format.specs.Refusals.{number_of}
 use Rattle.crn_format.specs.Header.{header_of}
-use Rattle.crn_format.specs.Look.{look_of}
-use Rattle.crn_format.specs.Opening.{Palettes, Opening, opened, shut, Lengths, segment, zeroed, segments_stand, room_for, sent_tables}
+use Rattle.crn_format.specs.Look.{looked, look_of}
+use Rattle.crn_format.specs.Opening.{Palettes, Opening, opened, shut, Lengths, zeroed, segments_stand, room_for}
 use Rattle.crn_format.specs.Opening.{tables_of, streams, after_look, opening}
 use Rattle.crn_format.specs.Loading.{agrees, loading}
+use Rattle.crn_format.specs.declared.Fault.{Fault}
 use Rattle.crn_format.specs.declared.Header.{Header}
 use Rattle.crn_format.specs.declared.Looked.{Looked}
 use Rattle.crn_format.specs.declared.Record.{Record}
+use Rattle.crn_format.specs.declared.Refusal.{Refusal}
+use Rattle.crn_format.specs.declared.Refusal.TheVariants.{Disagrees}
+use Rattle.crn_format.proofs.Numbers.{number-above}
 use Rattle.crn_format.proofs.LookAndOpen.{look-passes, look_refuses, look-goes-on}
 use Rattle.crn_format.proofs.Loads.{agrees-found, agrees_own, load_apart}
-use Rattle.crn_formats.specs.Records.{tables_by}
-use Rattle.crn_palettes.specs.declared.Ended.{Ended}
-use Rattle.crn_opening.specs.declared.opening.Opened.{Opened}
-use Rattle.crn_opening.specs.declared.opening.OpenedHeader.{OpenedHeader}
-use Rattle.crn_opening.specs.declared.tables_segment.Sent.{Sent}
-use Rattle.crn_opening.specs.SentTables.{AllZero, Told, told, sent_of}
-use Rattle.crn_opening.specs.Streams.{Seen, PalettesEnd}
-use Rattle.crn_opening.specs.Opens.{refused_header, opened_by, closed, to_opened, buffers_of, Opens, Loads}
-use Rattle.crn_opening.proofs.Streams.{cleared, on, off, tables-stop, tables-read}
+use Rattle.crn_opening.specs.declared.opening.OpenedParts.{OpenedParts}
+use Rattle.crn_opening.specs.SentTables.{AllZero}
+use Rattle.crn_formats.specs.Lent.{lent_of}
+use Rattle.crn_opening.specs.declared.lent.PalettesMut.{PalettesMut}
+use Rattle.crn_opening.specs.declared.lent.LengthsMut.{LengthsMut}
+use Rattle.crn_opening.specs.Lending.{held, lengths_in, NoLengths}
+use Rattle.crn_opening.specs.Streams.{Seen}
+use Rattle.crn_opening.specs.Opens.{refused_before, opened_by, opened_in, left_by, closed, Opened, to_opened, buffers_of, arrays_of, Opens, Loads}
+use Rattle.crn_opening.proofs.Streams.{cleared}
 
 -- ---- an opening that is known
 
 module _ {o : Opening} {after : Palettes} where
-  pub is-shut : {n bit : ℕ} {left : Palettes} → o ≡ shut n bit left → after ≡ left → {r : Opened} → r ≡ closed n bit → Opens o after r
+  is-shut : {n bit : ℕ} {left : Palettes} → o ≡ shut n bit left → after ≡ left → {r : Opened} → r ≡ closed n bit → Opens o after r
   is-shut e l a = record { answer = a ∙ ap to_opened (sym e); leaves = l ∙ ap buffers_of (sym e) }
 
-  pub is-opened : {file : Record} → o ≡ opened file after → Opens o after (record { refusal = 0; at = 0; file = file })
+  is-opened : {file : Record} → o ≡ opened file after → Opens o after (record { refusal = 0; at = 0; file = file })
   is-opened e = record { answer = ap to_opened (sym e); leaves = ap buffers_of (sym e) }
 
 -- a refusal by its parts
-pub closed_by : {n bit : ℕ} {r : OpenedHeader} {a b c d e : List ℕ} → r ≡ refused_header n bit → AllZero a b c d e → opened_by r a b c d e ≡
-    closed n bit
+pub closed_by : {e : Fault} {r : Result OpenedParts Fault} {a b c d f : List ℕ} → r ≡ Err e → AllZero a b c d f
+    → opened_by r a b c d f ≡ closed (number_of e.refusal) e.at
 unfolding tables_of
 closed_by is none = rw (is, none.first, none.color_e, none.color_s, none.alpha_e, none.alpha_s)
 
 -- ---- the streams
 
-module _ (file : List ℕ) (h : Header) (lent : Palettes) {sent : Told}
-    (e : sent ≡ sent_of (run (from_bits (segment file h.tables_offset h.tables_size)) (sent_tables h) start)) where
-  pub shut_by_tables : (sent.refusal ≡ 0 → ⊥) → {after : Palettes} → after ≡ zeroed lent → {r : Opened} → r ≡ closed sent.refusal sent.at
-      → Opens (streams file lent h) after r
-  shut_by_tables z l a = is-shut (tables-stop file lent h e z) l a
+module _ {o : Opening} (lent after : Palettes) (t : Lengths) where
+  pub streams-read : (r : Result OpenedParts Fault) → is_err r ≡ false → o ≡ left_by lent after t r → Opens o after (opened_in r t)
+  streams-read (Ok p) h e = is-opened e
+  streams-read (Err p) h e = cc
 
-  module _ (z : sent.refusal ≡ 0) {after : Palettes} {ended : Ended} (p : PalettesEnd file h lent after ended) where
-    -- the buffers that the palettes left are cleared
-    pub shut_by_palettes : (ended.refusal ≡ 0 → ⊥) → {left : Palettes} → left ≡ zeroed after → length left.color_ends ≡ length
-        lent.color_ends
-        → length left.color_sels ≡ length lent.color_sels → length left.alpha_ends ≡ length lent.alpha_ends
-        → length left.alpha_sels ≡ length lent.alpha_sels → {r : Opened} → r ≡ closed ended.refusal ended.at → Opens (streams file lent h)
-        left r
-    shut_by_palettes y l h₁ h₂ h₃ h₄ a =
-        is-shut (tables-read file lent h e z ∙ p.same _ ∙ off lent ended _ y) (cleared after lent l h₁ h₂ h₃ h₄) a
-
-    pub streams-read : ended.refusal ≡ 0
-        → Opens (streams file lent h) after (record { refusal = 0; at = 0; file = record { header = h; tables = sent.tables } })
-    streams-read y = is-opened (tables-read file lent h e z ∙ p.same _ ∙ on lent ended _ y)
-
--- the tables, as they stand in the lent arrays
-module _ (file : List ℕ) (h : Header) (lent : Palettes) (sent : Sent) (a b c d f : List ℕ)
-    (e : told sent a b c d f ≡ sent_of (run (from_bits (segment file h.tables_offset h.tables_size)) (sent_tables h) start)) where
-  pub streams-told : sent.refusal ≡ 0 → {after : Palettes} {ended : Ended} → PalettesEnd file h lent after ended → ended.refusal ≡ 0
-      → Opens (streams file lent h) after (record {
-        refusal = 0;
-        at = 0;
-        file = record
-            { header = h; tables = tables_by sent.counts a b c d f };
-      })
-  streams-told z p y = rw (eq-eqb sent.refusal 0 z) at (streams-read file h lent e z p y)
+  -- all that was lent is cleared
+  pub streams-refused : (r : Result OpenedParts Fault) → is_err r ≡ true → o ≡ left_by lent after t r
+      → {left : Palettes} → left ≡ zeroed after → length left.color_ends ≡ length lent.color_ends
+      → length left.color_sels ≡ length lent.color_sels → length left.alpha_ends ≡ length lent.alpha_ends
+      → length left.alpha_sels ≡ length lent.alpha_sels → {u : Lengths} → NoLengths u → Opens o left (opened_in r u)
+  streams-refused (Ok p) h e l h₁ h₂ h₃ h₄ none = cc
+  streams-refused (Err p) h e l h₁ h₂ h₃ h₄ none = is-shut e (cleared after lent l h₁ h₂ h₃ h₄) (closed_by refl none)
 
 -- ---- the checks from 4 on, and then the streams
 
@@ -92,26 +79,27 @@ module _ (file : List ℕ) (lent : Palettes) (h : Header) where
 
 -- ---- opening: the look, and what comes after it
 
-module _ (file : List ℕ) {looked : Looked} (e : looked ≡ look_of file) where
-  pub look-refused : (lent : Palettes) → (looked.refusal ≡ 0 → ⊥) → {r : Opened} → r ≡ closed looked.refusal 0
+module _ (file : List ℕ) where
+  pub look-refused : (lent : Palettes) (n : Refusal) → looked (Err n) ≡ look_of file → {r : Opened} → r ≡ closed (number_of n) 0
       → Opens (opening file lent) lent r
-  look-refused lent z a =
-      let n = ap (λ (x : Looked). x.refusal) e in
-      is-shut (look_refuses file lent (omega arith) ∙ ap (λ (n : ℕ). shut n 0 lent) (sym n)) refl a
+  look-refused lent n e a =
+      let is : number_of n ≡ (look_of file).refusal = ap (λ (x : Looked). x.refusal) e in
+      let some = number-above n in
+      is-shut (look_refuses file lent (omega arith) ∙ ap (λ (n : ℕ). shut n 0 lent) (sym is)) refl a
 
-  module _ (z : looked.refusal ≡ 0) where
+  module _ (h : Header) (e : looked (Ok h) ≡ look_of file) where
     looks_on : (look_of file).refusal ≡ 0
-    looks_on = sym (ap (λ (x : Looked). x.refusal) e) ∙ z
+    looks_on = sym (ap (λ (x : Looked). x.refusal) e)
 
-    header_is : looked.header ≡ header_of file
+    header_is : h ≡ header_of file
     header_is = ap (λ (x : Looked). x.header) (e ∙ (look-passes file looks_on).0)
 
-    pub look-passed : Seen file looked.header
+    pub look-passed : Seen file h
     look-passed =
         let both = (look-passes file looks_on).1 in
         record { within = rw header_is both.0; sizes = rw header_is both.1 }
 
-    pub then_opens : (lent : Palettes) {after : Palettes} {r : Opened} → Opens (after_look file lent looked.header) after r
+    pub then_opens : (lent : Palettes) {after : Palettes} {r : Opened} → Opens (after_look file lent h) after r
         → Opens (opening file lent) after r
     then_opens lent {after} {r} o =
         subst (λ (x : Opening). Opens x after r) (sym (look-goes-on file lent looks_on ∙ ap (after_look file lent) (sym header_is))) o
@@ -119,7 +107,7 @@ module _ (file : List ℕ) {looked : Looked} (e : looked ≡ look_of file) where
 -- ---- a load: the record against the file, and what comes after it
 
 module _ (h : Header) (file : List ℕ) where
-  pub loads_apart : (lent : Palettes) → agrees h file ≡ false → {had : Lengths} {r : OpenedHeader} → r ≡ refused_header 17 0
+  pub loads_apart : (lent : Palettes) → agrees h file ≡ false → {had : Lengths} {r : Result OpenedParts Fault} → r ≡ refused_before Disagrees
       → Loads h file lent lent had had r
   loads_apart lent n a =
       record {
@@ -139,7 +127,7 @@ module _ (h : Header) (file : List ℕ) where
     unfolding loading
     goes_on lent = simp y
 
-    pub loads_on : (lent : Palettes) {after : Palettes} {had left : Lengths} {r : OpenedHeader}
+    pub loads_on : (lent : Palettes) {after : Palettes} {had left : Lengths} {r : Result OpenedParts Fault}
         → Opens (after_look file lent h) after (opened_by r left.chunk left.color_ends left.color_sels left.alpha_ends
         left.alpha_sels)
         → Loads h file lent after had left r
@@ -149,3 +137,22 @@ module _ (h : Header) (file : List ℕ) where
           apart = λ n. absurd (false≢true (sym n ∙ y));
           alike = λ _. o.answer ∙ ap to_opened (sym (goes_on lent));
         }
+
+-- ---- what is left behind two structs is left in what they lend
+
+module _ (t : LengthsMut) {chunk color_ends color_sels alpha_ends alpha_sels : List ℕ} (f₁ : chunk ≡ t.chunk.now)
+    (f₂ : color_ends ≡ t.color_ends.now) (f₃ : color_sels ≡ t.color_sels.now) (f₄ : alpha_ends ≡ t.alpha_ends.now)
+    (f₅ : alpha_sels ≡ t.alpha_sels.now) where
+  pub none_lent : NoLengths (lengths_in t) → AllZero chunk color_ends color_sels alpha_ends alpha_sels
+  none_lent none = rw (f₁, f₂, f₃, f₄, f₅) none
+
+  module _ (p : PalettesMut) {ce cs ae al : List ℕ} (e₁ : ce ≡ p.color_endpoints.now) (e₂ : cs ≡ p.color_selectors.now)
+      (e₃ : ae ≡ p.alpha_endpoints.now) (e₄ : al ≡ p.alpha_selectors.now) where
+    pub opens_lent : {o : Opening} (r : Result OpenedParts Fault) → Opens o (held p) (opened_in r (lengths_in t))
+        → Opens o (lent_of ce cs ae al) (opened_by r chunk color_ends color_sels alpha_ends alpha_sels)
+    opens_lent r o = rw (e₁, e₂, e₃, e₄, f₁, f₂, f₃, f₄, f₅) o
+
+    pub loads_lent : {h : Header} {file : List ℕ} {lent : Palettes} {had : Lengths} {r : Result OpenedParts Fault}
+        → Loads h file lent (held p) had (lengths_in t) r
+        → Loads h file lent (lent_of ce cs ae al) had (arrays_of chunk color_ends color_sels alpha_ends alpha_sels) r
+    loads_lent l = rw (e₁, e₂, e₃, e₄, f₁, f₂, f₃, f₄, f₅) l

@@ -1,3 +1,4 @@
 pub mod SentTables
 pub mod Streams
 pub mod Opens
+pub mod Lending

@@ -1,15 +1,16 @@
 -- The palettes of an opening, plane by plane.
-use Rattle.std.specs.Prelude.{ℕ, ◌+◌, ◌*◌, ◌≤◌, ◌<◌, true, ◌≡◌, List, length, eqb}
-use Rattle.crn_format.specs.Choice.{pick}
+use Rattle.std.specs.Prelude.{ℕ, ◌+◌, ◌*◌, ◌≤◌, ◌<◌, true, ◌≡◌, List, length, ⊤, Ok, Err}
+use Rattle.std.specs.declared.result.Result.{Result}
 use Rattle.crn_format.specs.Limits.{max_entries, too_long}
 use Rattle.crn_format.specs.Reading.{Reading}
+use Rattle.crn_format.specs.Refusals.{number_of}
 use Rattle.crn_format.specs.Header.{within_limits, sizes_hold}
 use Rattle.crn_format.specs.Palettes.{color_endpoints, color_selectors, alpha_endpoints, alpha_selectors}
 use Rattle.crn_format.specs.Opening.{Palettes, Opening, shut, present, segments_stand, room_for, zeroed, palette_in}
+use Rattle.crn_format.specs.declared.Fault.{Fault}
 use Rattle.crn_format.specs.declared.Part.{Part}
 use Rattle.crn_format.specs.declared.Header.{Header}
 use Rattle.crn_formats.specs.Lent.{lent_of}
-use Rattle.crn_palettes.specs.declared.Ended.{Ended}
 
 -- ---- what reading the streams may count on
 
@@ -39,8 +40,9 @@ pub record PlaneFits (file : List ℕ) (ends sels : Part) (words : ℕ) (b₁ b�
 -- ---- what it leaves
 
 -- the opening goes on as `rest` says where r has no refusal; else it ends here, with all four buffers zero
-unfoldable pub settled : Palettes → Ended → Opening → Opening
-settled lent r rest = pick (eqb r.refusal 0) rest (shut r.refusal r.at (zeroed lent))
+abbrev pub settled : Palettes → Result ⊤ Fault → Opening → Opening
+settled lent (Ok x) rest = rest
+settled lent (Err e) rest = shut (number_of e.refusal) e.at (zeroed lent)
 
 -- the two palettes of a plane, and what comes after them
 abbrev pub plane_in : List ℕ → Palettes → Part → Part → (ℕ → Reading (List ℕ)) → (ℕ → Reading (List ℕ)) → List ℕ → List ℕ → (List ℕ → List ℕ → Opening) → Opening
@@ -55,9 +57,9 @@ palettes_in file lent h k =
     k (lent_of ce cs ae al)
 
 -- r tells how a plane's palettes ended; where it has no refusal, they left a₁ and a₂ in the buffers
-pub record PlaneEnds (file : List ℕ) (ends sels : Part) (m₁ m₂ : ℕ → Reading (List ℕ)) (b₁ b₂ a₁ a₂ : List ℕ) (r : Ended) : Type 0 where
+pub record PlaneEnds (file : List ℕ) (ends sels : Part) (m₁ m₂ : ℕ → Reading (List ℕ)) (b₁ b₂ a₁ a₂ : List ℕ) (r : Result ⊤ Fault) : Type 0 where
   pub same : (lent : Palettes) (k : List ℕ → List ℕ → Opening) → plane_in file lent ends sels m₁ m₂ b₁ b₂ k ≡ settled lent r (k a₁ a₂)
 
 -- r tells how the four palettes ended
-pub record PalettesEnd (file : List ℕ) (h : Header) (lent after : Palettes) (r : Ended) : Type 0 where
+pub record PalettesEnd (file : List ℕ) (h : Header) (lent after : Palettes) (r : Result ⊤ Fault) : Type 0 where
   pub same : (k : Palettes → Opening) → palettes_in file lent h k ≡ settled lent r (k after)

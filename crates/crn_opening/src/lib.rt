@@ -2,8 +2,9 @@
 // order.
 #![tactic(auto)]
 
+mod lent; // what an opening fills
 mod tables_segment; // the code tables of the levels
 mod palettes; // the four palettes
 mod opening; // the whole opening
 
-pub use opening::{Opened, OpenedHeader, load_into, open_into};
+pub use opening::{OpenedParts, load_into, open_into};

@@ -1,202 +1,94 @@
 // Opening a file, in one call or by a look's record: the header, the segments and the lent buffers, then the streams (document 01, Refusal
 // numbers; document 02, request 2).
 ghost use Rattle.std.specs.Prelude.{◌≡◌};
-ghost use Rattle.crn_format.specs.Opening.{streams, after_look, opening as opening_of, zeroed};
+ghost use Rattle.crn_format.specs.Opening.{streams, after_look, opening as opening_of};
 ghost use Rattle.crn_formats.specs.Lent.{lent_of};
-ghost use Rattle.crn_opening.specs.SentTables.{AllZero};
+ghost use Rattle.crn_opening.specs.Lending.{held, SamePalettes, lengths_in, SameLengths, NoLengths};
 ghost use Rattle.crn_opening.specs.Streams.{Seen, Passed};
-ghost use Rattle.crn_opening.specs.Opens.{refused_header, opened_by, arrays_of, Opens, Loads};
+ghost use Rattle.crn_opening.specs.Opens.{refused_before, opened_by, opened_in, left_by, arrays_of, Opens, Loads};
 
+use crate::lent::{LengthsMut, PalettesMut};
 use crate::palettes::{read_palettes, segment};
-use crate::tables_segment::{no_counts, read_tables};
+use crate::tables_segment::read_tables;
 use crn_decomp::{agrees, look};
-use crn_format::{Header, Record};
+use crn_format::{Fault, Header, Refusal};
 use crn_formats::Counts;
-use crn_palettes::{clear16, clear32};
-use crn_segments::{room_for, segments_stand};
+use crn_segments::segments_stand;
 
-// Refusal 0 with the opened file; else the refusal, the bit that it names (0 before the streams), and the empty record.
+// A file opened: its record but for the tables' lengths, which are left in lent arrays.
 #[derive(Clone, Copy)]
-pub struct Opened {
-    pub refusal: u32,
-    pub at: usize,
-    pub file: Record,
-}
-
-// The same without the tables' lengths, which are left in lent arrays.
-#[repr(C)]
-#[derive(Clone, Copy)]
-pub struct OpenedHeader {
-    pub refusal: u32,
-    pub at: usize,
+pub struct OpenedParts {
     pub header: Header,
     pub counts: Counts,
 }
 
-// A refusal, with the bit that it names. The look at no bytes gives the empty header.
-fn refused(refusal: u32, at: usize) -> OpenedHeader
-    ensures { result ≡ refused_header refusal at }
+// A refusal before the streams.
+fn refused(refusal: Refusal) -> Result<OpenedParts, Fault>
+    ensures { result ≡ refused_before refusal }
 {
-    let none = look(b"");
-    let header = none.header;
-    let counts = no_counts();
-    OpenedHeader {
-        refusal: refusal,
-        at: at,
-        header: header,
-        counts: counts,
-    }
+    Err(Fault { refusal, at: 0 })
 }
 
-// No lengths in any of the five tables.
-fn clear_tables(
-    chunk: &mut [u8; 8192],
-    color_ends: &mut [u8; 8192],
-    color_sels: &mut [u8; 8192],
-    alpha_ends: &mut [u8; 8192],
-    alpha_sels: &mut [u8; 8192],
-)
-    ensures { AllZero chunk.new color_ends.new color_sels.new alpha_ends.new alpha_sels.new }
+// The tables, then the palettes. After a refusal all that was lent is to be cleared.
+fn tables_and_palettes(
+    file: &[u8],
+    h: Header,
+    lent: &mut PalettesMut,
+    lengths: &mut LengthsMut,
+) -> Result<OpenedParts, Fault>
+    requires passed { Passed file.now h (held lent.old) }
+    requires all_zero { NoLengths (lengths_in lengths.old) }
+    ensures same_palettes { SamePalettes lent.old lent.new }
+    ensures same_lengths { SameLengths lengths.old lengths.new }
+    ensures opens { streams file.now (held lent.old) h ≡ left_by (held lent.old) (held lent.new) (lengths_in lengths.new) result }
 {
-    *chunk = [0; 8192];
-    *color_ends = [0; 8192];
-    *color_sels = [0; 8192];
-    *alpha_ends = [0; 8192];
-    *alpha_sels = [0; 8192];
+    let counts = read_tables(segment(file, h.tables_offset, h.tables_size), h, lengths)?;
+    read_palettes(file, h, lent)?;
+    Ok(OpenedParts { header: h, counts })
 }
 
-// "Later, all four lent buffers zero."
-fn clear(
-    color_endpoints: &mut [u32],
-    color_selectors: &mut [u32],
-    alpha_endpoints: &mut [u16],
-    alpha_selectors: &mut [u16],
-)
-    ensures { lent_of color_endpoints.new color_selectors.new alpha_endpoints.new alpha_selectors.new ≡ zeroed (lent_of color_endpoints.old color_selectors.old alpha_endpoints.old alpha_selectors.old) }
-{
-    clear32(color_endpoints);
-    clear32(color_selectors);
-    clear16(alpha_endpoints);
-    clear16(alpha_selectors);
-}
-
-// The streams: the tables, then the palettes.
+// The streams. A refusal leaves the four palettes zero, and no lengths in the tables.
 fn read_streams(
     file: &[u8],
     h: Header,
-    color_endpoints: &mut [u32],
-    color_selectors: &mut [u32],
-    alpha_endpoints: &mut [u16],
-    alpha_selectors: &mut [u16],
-    chunk: &mut [u8; 8192],
-    color_ends: &mut [u8; 8192],
-    color_sels: &mut [u8; 8192],
-    alpha_ends: &mut [u8; 8192],
-    alpha_sels: &mut [u8; 8192],
-) -> OpenedHeader
-    requires passed { Passed file.now h (lent_of color_endpoints.old color_selectors.old alpha_endpoints.old alpha_selectors.old) }
-    requires all_zero { AllZero chunk.old color_ends.old color_sels.old alpha_ends.old alpha_sels.old }
-    ensures { Opens (streams file.now (lent_of color_endpoints.old color_selectors.old alpha_endpoints.old alpha_selectors.old) h) (lent_of color_endpoints.new color_selectors.new alpha_endpoints.new alpha_selectors.new) (opened_by result chunk.new color_ends.new color_sels.new alpha_ends.new alpha_sels.new) }
+    lent: &mut PalettesMut,
+    lengths: &mut LengthsMut,
+) -> Result<OpenedParts, Fault>
+    requires passed { Passed file.now h (held lent.old) }
+    requires all_zero { NoLengths (lengths_in lengths.old) }
+    ensures same_palettes { SamePalettes lent.old lent.new }
+    ensures same_lengths { SameLengths lengths.old lengths.new }
+    ensures opens { Opens (streams file.now (held lent.old) h) (held lent.new) (opened_in result (lengths_in lengths.new)) }
 {
-    let sent = read_tables(
-        segment(file, h.tables_offset, h.tables_size),
-        h,
-        chunk,
-        color_ends,
-        color_sels,
-        alpha_ends,
-        alpha_sels,
-    );
-    if sent.refusal != 0 {
-        clear(
-            color_endpoints,
-            color_selectors,
-            alpha_endpoints,
-            alpha_selectors,
-        );
-        clear_tables(chunk, color_ends, color_sels, alpha_ends, alpha_sels);
-        return refused(sent.refusal, sent.at);
+    let opened = tables_and_palettes(file, h, lent, lengths);
+    if opened.is_err() {
+        lent.clear();
+        lengths.clear();
     }
-    let ended = read_palettes(
-        file,
-        h,
-        color_endpoints,
-        color_selectors,
-        alpha_endpoints,
-        alpha_selectors,
-    );
-    if ended.refusal != 0 {
-        clear(
-            color_endpoints,
-            color_selectors,
-            alpha_endpoints,
-            alpha_selectors,
-        );
-        clear_tables(chunk, color_ends, color_sels, alpha_ends, alpha_sels);
-        return refused(ended.refusal, ended.at);
-    }
-    let counts = sent.counts;
-    OpenedHeader {
-        refusal: 0,
-        at: 0,
-        header: h,
-        counts: counts,
-    }
+    opened
 }
 
-// "4 for every segment it reads, 5, then the stream", by a header that a look has let through. The tables' lengths go into five lent
-// arrays, whatever these held: a record is too large to be handed back.
+// "4 for every segment it reads, 5, then the stream", by a header that a look has let through. The tables' lengths go into the lent arrays,
+// whatever these held.
 fn after_look(
     file: &[u8],
     h: Header,
-    color_endpoints: &mut [u32],
-    color_selectors: &mut [u32],
-    alpha_endpoints: &mut [u16],
-    alpha_selectors: &mut [u16],
-    chunk: &mut [u8; 8192],
-    color_ends: &mut [u8; 8192],
-    color_sels: &mut [u8; 8192],
-    alpha_ends: &mut [u8; 8192],
-    alpha_sels: &mut [u8; 8192],
-) -> OpenedHeader
+    lent: &mut PalettesMut,
+    lengths: &mut LengthsMut,
+) -> Result<OpenedParts, Fault>
     requires { Seen file.now h }
-    ensures { Opens (after_look file.now
-        (lent_of color_endpoints.old color_selectors.old
-        alpha_endpoints.old alpha_selectors.old)
-        h)
-        (lent_of color_endpoints.new color_selectors.new
-        alpha_endpoints.new alpha_selectors.new)
-        (opened_by result chunk.new color_ends.new color_sels.new
-        alpha_ends.new alpha_sels.new) }
+    ensures same_palettes { SamePalettes lent.old lent.new }
+    ensures same_lengths { SameLengths lengths.old lengths.new }
+    ensures opens { Opens (after_look file.now (held lent.old) h) (held lent.new) (opened_in result (lengths_in lengths.new)) }
 {
-    clear_tables(chunk, color_ends, color_sels, alpha_ends, alpha_sels);
-    let stand = segments_stand(file, h);
-    let room = room_for(
-        h,
-        color_endpoints,
-        color_selectors,
-        alpha_endpoints,
-        alpha_selectors,
-    );
-    if !stand {
-        return refused(4, 0);
+    lengths.clear();
+    if !segments_stand(file, h) {
+        return refused(Refusal::NoSegment);
     }
-    if !room {
-        return refused(5, 0);
+    if !lent.has_room(h) {
+        return refused(Refusal::ShortPalettes);
     }
-    read_streams(
-        file,
-        h,
-        color_endpoints,
-        color_selectors,
-        alpha_endpoints,
-        alpha_selectors,
-        chunk,
-        color_ends,
-        color_sels,
-        alpha_ends,
-        alpha_sels,
-    )
+    read_streams(file, h, lent, lengths)
 }
 
 // A file opened with four lent buffers: "1, 2, 3, 4 for every segment it reads, 5, then the stream".
@@ -211,7 +103,7 @@ pub fn open_into(
     color_sels: &mut [u8; 8192],
     alpha_ends: &mut [u8; 8192],
     alpha_sels: &mut [u8; 8192],
-) -> OpenedHeader
+) -> Result<OpenedParts, Fault>
     ensures { Opens (opening_of file.now
         (lent_of color_endpoints.old color_selectors.old
         alpha_endpoints.old alpha_selectors.old))
@@ -220,25 +112,26 @@ pub fn open_into(
         (opened_by result chunk.new color_ends.new color_sels.new
         alpha_ends.new alpha_sels.new) }
 {
-    let looked = look(file);
-    if looked.refusal != 0 {
-        clear_tables(chunk, color_ends, color_sels, alpha_ends, alpha_sels);
-        return refused(looked.refusal, 0);
-    }
-    let h = looked.header;
-    after_look(
-        file,
-        h,
+    let mut lent = PalettesMut {
         color_endpoints,
         color_selectors,
         alpha_endpoints,
         alpha_selectors,
+    };
+    let mut lengths = LengthsMut {
         chunk,
         color_ends,
         color_sels,
         alpha_ends,
         alpha_sels,
-    )
+    };
+    match look(file) {
+        Err(refusal) => {
+            lengths.clear();
+            refused(refusal)
+        }
+        Ok(header) => after_look(file, header, &mut lent, &mut lengths),
+    }
 }
 
 // The palettes of a file that was looked at (document 02, request 2): "17, record and file disagree (also where the look refuses the file),
@@ -255,7 +148,7 @@ pub fn load_into(
     color_sels: &mut [u8; 8192],
     alpha_ends: &mut [u8; 8192],
     alpha_sels: &mut [u8; 8192],
-) -> OpenedHeader
+) -> Result<OpenedParts, Fault>
     ensures { Loads header file.now
         (lent_of color_endpoints.old color_selectors.old
         alpha_endpoints.old alpha_selectors.old)
@@ -268,19 +161,20 @@ pub fn load_into(
         result }
 {
     if !agrees(header, file) {
-        return refused(17, 0);
+        return refused(Refusal::Disagrees);
     }
-    after_look(
-        file,
-        header,
+    let mut lent = PalettesMut {
         color_endpoints,
         color_selectors,
         alpha_endpoints,
         alpha_selectors,
+    };
+    let mut lengths = LengthsMut {
         chunk,
         color_ends,
         color_sels,
         alpha_ends,
         alpha_sels,
-    )
+    };
+    after_look(file, header, &mut lent, &mut lengths)
 }

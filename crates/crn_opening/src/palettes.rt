@@ -3,12 +3,12 @@
 ghost use Rattle.std.specs.Prelude.{◌≡◌, ◌+◌, ◌≤◌, length};
 ghost use Rattle.crn_format.specs.Palettes.{color_endpoints, color_selectors, alpha_endpoints, alpha_selectors};
 ghost use Rattle.crn_format.specs.Opening.{segment as segment_of};
-ghost use Rattle.crn_formats.specs.Lent.{lent_of};
+ghost use Rattle.crn_opening.specs.Lending.{held, SamePalettes};
 ghost use Rattle.crn_opening.specs.Streams.{Passed, PlaneFits, PlaneEnds, PalettesEnd};
 
+use crate::lent::PalettesMut;
 use crn_endpoints::{alpha_endpoints, color_endpoints};
-use crn_format::{Header, Part};
-use crn_palettes::Ended;
+use crn_format::{Fault, Header, Part};
 use crn_selectors::{alpha_selectors, color_selectors};
 
 // The bytes of a part of the file.
@@ -28,21 +28,18 @@ fn color_palettes(
     sels: Part,
     endpoints: &mut [u32],
     selectors: &mut [u32],
-) -> Ended
+) -> Result<(), Fault>
     requires { PlaneFits file.now ends sels 1 endpoints.old selectors.old }
     ensures { PlaneEnds file.now ends sels color_endpoints color_selectors endpoints.old selectors.old endpoints.new selectors.new result }
 {
     if ends.count == 0 {
-        return Ended { refusal: 0, at: 0 };
+        return Ok(());
     }
-    let first = color_endpoints(
+    color_endpoints(
         segment(file, ends.offset, ends.size),
         ends.count as usize,
         endpoints,
-    );
-    if first.refusal != 0 {
-        return first;
-    }
+    )?;
     color_selectors(
         segment(file, sels.offset, sels.size),
         sels.count as usize,
@@ -57,21 +54,18 @@ fn alpha_palettes(
     sels: Part,
     endpoints: &mut [u16],
     selectors: &mut [u16],
-) -> Ended
+) -> Result<(), Fault>
     requires { PlaneFits file.now ends sels 3 endpoints.old selectors.old }
     ensures { PlaneEnds file.now ends sels alpha_endpoints alpha_selectors endpoints.old selectors.old endpoints.new selectors.new result }
 {
     if ends.count == 0 {
-        return Ended { refusal: 0, at: 0 };
+        return Ok(());
     }
-    let first = alpha_endpoints(
+    alpha_endpoints(
         segment(file, ends.offset, ends.size),
         ends.count as usize,
         endpoints,
-    );
-    if first.refusal != 0 {
-        return first;
-    }
+    )?;
     alpha_selectors(
         segment(file, sels.offset, sels.size),
         sels.count as usize,
@@ -80,36 +74,23 @@ fn alpha_palettes(
 }
 
 // The colour plane's palettes, then the alpha plane's.
-pub fn read_palettes(
-    file: &[u8],
-    h: Header,
-    color_endpoints: &mut [u32],
-    color_selectors: &mut [u32],
-    alpha_endpoints: &mut [u16],
-    alpha_selectors: &mut [u16],
-) -> Ended
-    requires { Passed file.now h (lent_of color_endpoints.old color_selectors.old alpha_endpoints.old alpha_selectors.old) }
-    ensures { PalettesEnd file.now h (lent_of color_endpoints.old color_selectors.old alpha_endpoints.old alpha_selectors.old) (lent_of color_endpoints.new color_selectors.new alpha_endpoints.new alpha_selectors.new) result }
+pub fn read_palettes(file: &[u8], h: Header, lent: &mut PalettesMut) -> Result<(), Fault>
+    requires { Passed file.now h (held lent.old) }
+    ensures same { SamePalettes lent.old lent.new }
+    ensures ends { PalettesEnd file.now h (held lent.old) (held lent.new) result }
 {
-    let color_ends = h.color_endpoints;
-    let color_sels = h.color_selectors;
-    let alpha_ends = h.alpha_endpoints;
-    let alpha_sels = h.alpha_selectors;
-    let color = color_palettes(
+    color_palettes(
         file,
-        color_ends,
-        color_sels,
-        color_endpoints,
-        color_selectors,
-    );
-    if color.refusal != 0 {
-        return color;
-    }
+        h.color_endpoints,
+        h.color_selectors,
+        lent.color_endpoints,
+        lent.color_selectors,
+    )?;
     alpha_palettes(
         file,
-        alpha_ends,
-        alpha_sels,
-        alpha_endpoints,
-        alpha_selectors,
+        h.alpha_endpoints,
+        h.alpha_selectors,
+        lent.alpha_endpoints,
+        lent.alpha_selectors,
     )
 }

@@ -5,16 +5,17 @@ use mathlib.Core.Path.{◌≡◌, refl, sym, ap, ◌∙◌}
 use native.Mathlib.Omega.{arith}
 use native.Mathlib.Nat.{sub-zero}
 use lib.ListN.{length, replicate, take, drop, take-append-drop}
-use lib.Seq.{sets, sets-eq, length-sets, paste, take-paste, drop-paste, take-length, drop-drop, length-take-le}
-use Rattle.crn_format.specs.Reading.{Reading, answer, next, Step, refused, Place, spot, start, run, from_bits}
+use lib.Seq.{sets, sets-eq, length-sets, paste, take-paste, drop-paste, take-length, take_all, drop-drop, length-take-le}
+use Rattle.crn_format.specs.Reading.{Reading, answer, next, Step, Place, spot, start, run, from_bits}
 use Rattle.crn_format.specs.Palettes.{entries}
 use Rattle.crn_format.specs.Opening.{zeros}
 use Rattle.crn_symbol_codec.specs.Cursors.{place, Holds}
 use Rattle.crn_symbol_codec.specs.declared.Cursor.{Cursor}
 use Rattle.crn_palettes.specs.Filling.{answered, held, Fills, FillsFrom}
-use Rattle.crn_palettes.specs.Reaching.{Reaches}
-use Rattle.crn_palettes.specs.declared.reading.Reached.{Reached}
-use Rattle.crn_palettes.specs.declared.reading.Reached.TheVariants.{To, Refused}
+use Rattle.crn_symbol_codec.specs.Telling.{fault}
+use Rattle.crn_palettes.specs.Reaching.{Reached, Reaches}
+use Rattle.std.specs.Prelude.{Ok, Err}
+use Rattle.crn_format.specs.declared.Fault.{Fault}
 use Rattle.crn_palettes.proofs.Leaving.{Left, left_is, left-answer, left-next, left-stop, next-holds}
 
 -- ---- the buffer
@@ -72,7 +73,7 @@ module _ {seg : List ℕ} {turn : List ℕ → Reading (List ℕ)} {words : List
 
   module _ (h : i < n) {now : List ℕ} {r : Reached} (t : (b : ℕ) → Reaches seg (turn vs) at b now r) where
     -- an entry, whose words ws are put into the buffer
-    pub entry_more : {d : Cursor} {ws : List ℕ} → r ≡ To d → words now ≡ ws → k + length ws ≤ length out → Entered seg turn words n (i + 1)
+    pub entry_more : {d : Cursor} {ws : List ℕ} → r ≡ Ok d → words now ≡ ws → k + length ws ≤ length out → Entered seg turn words n (i + 1)
         (k + length ws) now (sets out k ws) d whole
     entry_more {d} {ws} e f g =
         record {
@@ -82,7 +83,7 @@ module _ {seg : List ℕ} {turn : List ℕ → Reading (List ℕ)} {words : List
               (left-next _ (entry_first h) t e);
         }
 
-    pub entry-refused : {y p : ℕ} → r ≡ Refused y p → whole ≡ refused y (spot p p)
+    pub entry-refused : {y : Fault} → r ≡ Err y → whole ≡ fault y
     entry-refused e = left-stop _ (entry_first h) t e
 
   pub entries_done : n ≤ i → Left seg (answer (take k out)) at whole
@@ -96,7 +97,7 @@ module _ {seg : List ℕ} {turn : List ℕ → Reading (List ℕ)} {words : List
 module _ {seg : List ℕ} {m : Reading (List ℕ)} {before : List ℕ} where
   pub fills_all : {out : List ℕ} {k : ℕ} {at : Cursor} {whole : Step Place (List ℕ)} → run (from_bits seg) m start ≡ whole → Left seg
       (answer (take k out)) at whole → Written before k out
-      → Fills seg m before out (record { refusal = 0; at = 0 })
+      → Fills seg m before out (Ok tt)
   fills_all {out} {k} q l w =
       let e = q ∙ left-answer l in
       record {
@@ -108,9 +109,9 @@ module _ {seg : List ℕ} {m : Reading (List ℕ)} {before : List ℕ} where
             ∙ take-append-drop k out);
       }
 
-  pub fills_none : (out : List ℕ) {n p : ℕ} {after : List ℕ} → run (from_bits seg) m start ≡ refused n (spot p p) → length out ≡ length
+  pub fills_none : (out : List ℕ) {y : Fault} {after : List ℕ} → run (from_bits seg) m start ≡ fault y → length out ≡ length
       before → after ≡ zeros out
-      → Fills seg m before after (record { refusal = n; at = p })
+      → Fills seg m before after (Err y)
   fills_none out e l z = record { answer = sym (ap answered e); holds = z ∙ ap (λ (j : ℕ). replicate j 0) l ∙ sym (ap (held before) e) }
 
 -- ---- the loop over the entries, whatever the codes t of the palette are that its decoder tables are known to have
@@ -135,7 +136,7 @@ module _ {T : Type 0} {Known : T → Type 0} {seg : List ℕ} {turn : T → List
     (x : Filling Known seg turn words n before first c i k out vs at) where
   module _ (h : i < n) {now : List ℕ} {r : Reached} (turns : (t : T) → Known t → (b : ℕ) → Reaches seg (turn t vs) at b now r) where
     -- an entry, whose words ws are put into the buffer
-    pub filling_more : {d : Cursor} {ws after : List ℕ} {t : T} → Known t → r ≡ To d → words now ≡ ws → k + length ws ≤ length out → after ≡
+    pub filling_more : {d : Cursor} {ws after : List ℕ} {t : T} → Known t → r ≡ Ok d → words now ≡ ws → k + length ws ≤ length out → after ≡
         sets out k ws
         → Filling Known seg turn words n before first c (i + 1) (k + length ws) after now d
     filling_more {d} {ws} {after} {t} q e f g z =
@@ -148,10 +149,28 @@ module _ {T : Type 0} {Known : T → Type 0} {seg : List ℕ} {turn : T → List
         })
 
     -- an entry that is refused, where the buffer is then cleared
-    pub filling_refused : {y p : ℕ} {after : List ℕ} → r ≡ Refused y p → after ≡ zeros out → (t : T) → Known t → FillsFrom seg c
-        (entries (turn t) words n first []) before after (record { refusal = y; at = p })
+    pub filling_refused : {y : Fault} {after : List ℕ} → r ≡ Err y → after ≡ zeros out → (t : T) → Known t → FillsFrom seg c
+        (entries (turn t) words n first []) before after (Err y)
     filling_refused e z t q m b s = fills_none out (s ∙ entry-refused (x.entered t q b) h (turns t q) e) x.written.long z
 
-  pub filling_done : n ≤ i → (t : T) → Known t → FillsFrom seg c (entries (turn t) words n first []) before out
-      (record { refusal = 0; at = 0 })
+    -- the same where the buffer is the first words of a longer one, which is then cleared whole
+    pub filling_failed : {y : Fault} {whole : List ℕ} (after : List ℕ) → r ≡ Err y → length after ≡ length whole → (t : T) → Known t → FillsFrom seg c
+        (entries (turn t) words n first []) whole (zeros after) (Err y)
+    filling_failed after e l t q m b s = fills_none after (s ∙ entry-refused (x.entered t q b) h (turns t q) e) l refl
+
+  pub filling_done : n ≤ i → (t : T) → Known t → FillsFrom seg c (entries (turn t) words n first []) before out (Ok tt)
   filling_done h t q m b s = fills_all s (entries_done (x.entered t q b) h) x.written
+
+  -- the same where the buffer is the first words of a longer one
+  pub filling_front : {whole after : List ℕ} {j : ℕ} → n ≤ i → length out ≤ k → length out ≡ j → after ≡ out ++ drop j whole → (t : T)
+      → Known t → FillsFrom seg c (entries (turn t) words n first []) whole after (Ok tt)
+  filling_front {whole} h g l z t q m b s =
+      let e = s ∙ left-answer (entries_done (x.entered t q b) h) in
+      record {
+        answer = sym (ap answered e);
+        holds =
+            z
+            ∙ ap (λ (j : ℕ). out ++ drop j whole) (sym l)
+            ∙ ap (λ (w : List ℕ). w ++ drop (length w) whole) (sym (take_all k out g))
+            ∙ sym (ap (held whole) e);
+      }

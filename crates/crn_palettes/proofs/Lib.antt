@@ -1,5 +1,4 @@
 pub mod Fitting
 pub mod Leaving
 pub mod Entering
-pub mod Zeroing
 pub mod Starting

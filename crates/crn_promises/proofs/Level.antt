@@ -3,13 +3,12 @@ use Prim.Native.Nat.{ℕ}
 use mathlib.Core.Path.{◌≡◌, refl, sym, ap, ◌∙◌}
 use mathlib.Core.Logic.{inl, inr, ◌↔◌}
 use mathlib.Core.List.{List}
+use Rattle.std.specs.Prelude.{Ok, Err}
 use native.Mathlib.Omega.{arith}
 use Rattle.crn_format.specs.Grid.{painted}
 use Rattle.crn_format.specs.Unpacking.{Unpacking, unpacked, declined}
 use Rattle.crn_blocks.specs.Sheet.{In, standing}
-use Rattle.crn_drawing.specs.Unpacks.{answer_of, symbols_of, Unpacks}
-use Rattle.crn_drawing.specs.declared.Unpacked.{Unpacked}
-use Rattle.crn_drawing.specs.declared.Unpacked.TheVariants.{Blocks, Refused}
+use Rattle.crn_drawing.specs.Unpacks.{Drawn, answer_of, symbols_of, Unpacks}
 use Rattle.crunch_abi.specs.Answers.{answer_of as flat}
 use Rattle.crunch_abi.specs.declared.level.Answer.{Answer}
 use Rattle.crn_laws.specs.Scripts.{Draws}
@@ -38,16 +37,16 @@ module _ (v : Given) (ds : List Draws) where
 -- ---- the call
 
 -- a contract's answer in document 01's numbers is the definition's
-same_answer : (a : Unpacked) (after : List ℕ) {u : Unpacking} → answer_of a after ≡ u → (flat a ≡ answer_in u) × (after ≡ after_in u)
+same_answer : (a : Drawn) (after : List ℕ) {u : Unpacking} → answer_of a after ≡ u → (flat a ≡ answer_in u) × (after ≡ after_in u)
 unfolding answer_of
-same_answer (Blocks symbols cutouts) after is = (ap answer_in is, ap after_in is)
-same_answer (Refused number symbols bit) after is = (ap answer_in is, ap after_in is)
+same_answer (Ok u) after is = (ap answer_in is, ap after_in is)
+same_answer (Err e) after is = (ap answer_in is, ap after_in is)
 
-same-symbols : (a : Unpacked) → (flat a).symbols ≡ symbols_of a
-same-symbols (Blocks symbols cutouts) = refl
-same-symbols (Refused number symbols bit) = refl
+same-symbols : (a : Drawn) → (flat a).symbols ≡ symbols_of a
+same-symbols (Ok u) = refl
+same-symbols (Err e) = refl
 
-pub level-same : (c : LevelCall) (a : Unpacked) → c.answer ≡ flat a
+pub level-same : (c : LevelCall) (a : Drawn) → c.answer ≡ flat a
     → Unpacks (unpacking_in c.given c.budget) c.budget c.left c.after a → LevelSame c
 level-same c a is u =
     let same = same_answer a c.after u.answer in

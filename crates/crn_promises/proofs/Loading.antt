@@ -14,9 +14,12 @@ use Rattle.crn_format.specs.declared.Looked.{Looked}
 use Rattle.crn_format.proofs.LookAndOpen.{look_refuses, look-goes-on}
 use Rattle.crn_format.proofs.Loads.{agrees-found, found-agrees, agrees_own, load-goes-on, load_apart, look-agrees}
 use Rattle.crn_format.proofs.Heads.{look-at_head}
-use Rattle.crn_opening.specs.Opens.{opened_by, closed, to_opened, buffers_of, Opens, Loads}
-use Rattle.crn_opening.specs.declared.opening.Opened.{Opened}
-use Rattle.crn_opening.specs.declared.opening.OpenedHeader.{OpenedHeader}
+use Rattle.std.specs.declared.result.Result.{Result}
+use Rattle.crn_format.specs.declared.Fault.{Fault}
+use Rattle.crn_opening.specs.Opens.{Opened, opened_by, closed, to_opened, buffers_of, Opens, Loads}
+use Rattle.crn_opening.specs.declared.opening.OpenedParts.{OpenedParts}
+use Rattle.crunch_abi.specs.Opening as flat
+use Rattle.crunch_abi.specs.declared.loading.OpenedHeader.{OpenedHeader}
 use Rattle.crn_laws_total.specs.Refusals.{among, after_look_refusals}
 use Rattle.crn_laws_total.proofs.Numbers.{not-zero}
 use Rattle.crn_laws_total.proofs.Opening.{Late, after-look_late}
@@ -44,9 +47,20 @@ module _ (c : LoadCall) where
       }
 
   -- with the record by its parts
-  pub parts_same : (r : OpenedHeader)
+  pub into_same : (r : Result OpenedParts Fault)
       → c.answer ≡ opened_by r c.left.chunk c.left.color_ends c.left.color_sels c.left.alpha_ends c.left.alpha_sels
       → Loads c.header c.file c.lent c.after c.had c.left r → LoadSame c
+  into_same r told l =
+      record {
+        leaves = l.leaves;
+        alike = λ y. told ∙ l.alike y;
+        apart = λ n. let a = l.apart n in rw (told, a.0) (refl, (refl, (refl, a.1)));
+      }
+
+  -- and as C and Rust are answered
+  pub parts_same : (r : OpenedHeader)
+      → c.answer ≡ flat.opened_by r c.left.chunk c.left.color_ends c.left.color_sels c.left.alpha_ends c.left.alpha_sels
+      → flat.Loads c.header c.file c.lent c.after c.had c.left r → LoadSame c
   parts_same r told l =
       record {
         leaves = l.leaves;

@@ -13,7 +13,7 @@ use borrow.Author.Tests.{leb-true, ltb-false, le-leb, lt-ltb}
 use Rattle.crn_format.specs.Choice.{pick, either}
 use Rattle.crn_format.specs.Limits.{max_symbols, max_side, max_levels}
 use Rattle.crn_format.specs.Codes.{is_code}
-use Rattle.crn_format.specs.Reading.{refused, start, from_bits}
+use Rattle.crn_format.specs.Reading.{start, from_bits}
 use Rattle.crn_format.specs.Tables.{length_order, sent_lengths, run_of, lengths_from, checked, coded, counted, table}
 use Rattle.crn_format.specs.Header.{kind_of, known, has_color, has_alpha, between, entries_fit, header_of, within_limits, sizes_hold, signed}
 use Rattle.crn_format.specs.Opening.{Palettes, Opening, opened, shut, Lengths, present, plane_tables, sent_tables, table_of, tables_of, segments_stand, room_for, segment, streams, opening}
@@ -22,8 +22,7 @@ use Rattle.crn_format.specs.declared.Part.{Part}
 use Rattle.crn_format.specs.declared.Header.{Header}
 use Rattle.crn_format.proofs.Choices.{both_hold}
 use Rattle.crn_format.proofs.Answers.{All, run-all, all-next, Any, all_any, all-pick, all-answer}
-use Rattle.crn_opening.specs.Opens.{to_opened, buffers_of}
-use Rattle.crn_opening.specs.declared.opening.Opened.{Opened}
+use Rattle.crn_opening.specs.Opens.{Opened, to_opened, buffers_of}
 use Rattle.crunch_abi.proofs.Enough.{palettes_fit}
 use Rattle.crn_laws_total.specs.Leaves.{Beyond}
 use Rattle.crn_laws_total.specs.Refusals.{among, in_streams, opening_refusals}

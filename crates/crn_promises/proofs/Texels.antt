@@ -10,7 +10,8 @@ use borrow.Author.Tests.{lt-ltb, le-ltb, ltb-true, ltb-false, le-leb, eqb-false}
 use lib.Dec.{ltb, eqb}
 use lib.ListN.{length, get_or}
 use Rattle.crn_format.specs.Choice.{pick, not}
-use Rattle.crn_format.specs.Header.{DXT1, DXT5, kind_of, block_bytes, within_limits}
+use Rattle.crn_format.specs.declared.Kind.TheVariants.{DXT1, DXT5}
+use Rattle.crn_format.specs.Header.{kind_of, block_bytes, within_limits}
 use Rattle.crn_format.specs.Limits.{max_side}
 use Rattle.crn_format.specs.Grid.{pixels, blocks}
 use Rattle.crn_format.specs.Unpacking.{grid_of}

@@ -8,7 +8,9 @@ use native.Mathlib.Omega.{arith}
 use lib.ListN.{length, take, drop}
 use lib.Dec.{ltb}
 use borrow.Author.Tests.{lt-ltb}
-use Rattle.crn_format.specs.Header.{Kind, DXT1, DXT5, DXT5A, DXN, unknown, kind_of, block_bytes, within_limits}
+use Rattle.crn_format.specs.declared.Kind.{Kind}
+use Rattle.crn_format.specs.declared.Kind.TheVariants.{DXT1, DXT5, DXT5A, DXN, Unknown}
+use Rattle.crn_format.specs.Header.{kind_of, block_bytes, within_limits}
 use Rattle.crn_format.specs.Opening.{Palettes}
 use Rattle.crn_format.specs.Grid.{pixels, blocks}
 use Rattle.crn_format.specs.Unpacking.{Unpacking, unpacked, declined, level_stands, grid_of, grid_fits, reach, unpacking}
@@ -35,7 +37,7 @@ four DXT1 = (2, refl)
 four DXT5 = (4, refl)
 four DXT5A = (2, refl)
 four DXN = (4, refl)
-four unknown = (0, refl)
+four Unknown = (0, refl)
 
 close-fits : (faces columns rows bytes q : ℕ) → bytes ≡ 4 * q → grid_fits (close faces columns rows bytes) ≡ true
 close-fits faces columns rows bytes q e = rw e (grid-fits faces columns rows q)

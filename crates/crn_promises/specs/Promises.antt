@@ -1,6 +1,8 @@
 -- The three demands, each as a claim about one call. proofs/Promises.antt has them as theorems over the functions' own contracts.
 use Rattle.std.specs.Prelude.{ℕ, ◌+◌, ◌*◌, ◌-◌, ◌%◌, ◌≤◌, ◌<◌, ◌≡◌, true, false, ◌⊎◌, ◌↔◌, List, [], ◌∷◌, ◌++◌, length, get_or, take}
-use Rattle.crn_format.specs.Header.{header_of, within_limits, Kind, DXT1, DXT5, kind_of}
+use Rattle.crn_format.specs.declared.Kind.{Kind}
+use Rattle.crn_format.specs.declared.Kind.TheVariants.{DXT1, DXT5}
+use Rattle.crn_format.specs.Header.{header_of, within_limits, kind_of}
 use Rattle.crn_format.specs.Grid.{pixels, painted}
 use Rattle.crn_format.specs.Look.{empty_header, found, no, head_bytes, look_of}
 use Rattle.crn_format.specs.Opening.{Palettes, shut, opening}

@@ -10,11 +10,10 @@ use Rattle.crn_format.specs.Level.{endpoint_indices, position_selectors}
 use Rattle.crn_symbol_codec.specs.Cursors.{place, Holds}
 use Rattle.crn_symbol_codec.specs.declared.Cursor.{Cursor}
 use Rattle.crn_chunks.specs.Meaning.{source, row, plane_of, planes, most}
-use Rattle.crn_chunks.specs.Parts.{Tiled, rows_to}
+use Rattle.crn_chunks.specs.Parts.{Drew, Tiled, rows_to}
 use Rattle.crn_chunks.specs.Reads.{inside_of}
 use Rattle.crn_chunks.specs.declared.Side.{Side}
 use Rattle.crn_chunks.specs.declared.Planes.{Planes}
-use Rattle.crn_chunks.specs.declared.Drew.{Drew}
 use Rattle.crn_chunks.proofs.Tiling.{Tiling, tiling_none, tiling_more, tiling_done, tiles-one, tiles-two}
 use Rattle.crn_chunks.proofs.Picking.{Picking, picking_none, picking_more, picking_done, picks_one, picks_two}
 use Rattle.crn_chunks.specs.declared.Carried.{Carried}
@@ -54,7 +53,7 @@ module _ {lookup sorted seg : List ℕ} {ps : Planes} {p : Side} {base n i : ℕ
         → base + n ≤ length before → QuickTiling lookup sorted seg ps p base n i c before (set out (base + k) j) d j (k + 1)
     quick_more more s room b l m f =
         let y = x b l (m + 1) (omega arith) in
-        record { blamed = place at; tiling = tiling_more y.tiling more (s.drawn y.blamed (m + 1) m refl) refl room }
+        record { blamed = place at; tiling = tiling_more y.tiling more (s.drawn y.blamed (m + 1) m refl) room }
 
     pub quick_done : n ≤ k → k ≤ n → PlaneTiles lookup sorted seg ps p base n i c before out at last
     quick_done u w b l m f =
@@ -82,7 +81,7 @@ module _ {lookup sorted seg : List ℕ} (ps : Planes) {n e0 e1 : ℕ} {c c0 d : 
   pub tiled-one : ps.two ≡ false → e1 < most → PlanesTiles lookup sorted seg ps n e0 e1 c mid d i e1
   tiled-one h o b l m f =
       let y = x b l m (f ∙ ap (λ (v : ℕ). m + v) (each-one n h)) in
-      record { blamed = y.blamed; tiled = tiles-one ps e1 (tiles-moved at y.tiled) refl h o }
+      record { blamed = y.blamed; tiled = tiles-one ps e1 (tiles-moved at y.tiled) h o }
 
   pub tiled-two : {d0 e : Cursor} {after : List ℕ} {j : ℕ} → ps.two ≡ true → place d0 ≡ place d
       → PlaneTiles lookup sorted seg ps ps.second 4 n e1 d0 mid after e j
@@ -90,7 +89,7 @@ module _ {lookup sorted seg : List ℕ} (ps : Planes) {n e0 e1 : ℕ} {c c0 d : 
   tiled-two h at0 y few long b l m f =
       let v = x b l (m + n) (f ∙ ap (λ (w : ℕ). m + w) (each_two n h) ∙ omega arith) in
       let w = y v.blamed (m + n) m refl in
-      record { blamed = w.blamed; tiled = tiles-two ps e1 (tiles-moved at v.tiled) refl h (tiles-moved at0 w.tiled) refl few long }
+      record { blamed = w.blamed; tiled = tiles-two ps e1 (tiles-moved at v.tiled) h (tiles-moved at0 w.tiled) few long }
 
 -- ---- a position
 
@@ -101,7 +100,7 @@ module _ {lookup sorted seg : List ℕ} (ps : Planes) (inside : Bool) (s0 s1 : �
       record {
         picked = λ b l m f.
             let q : place d - len ≡ place c = omega (arith, x.passed) in
-            rw q (picks_one ps inside s0 s1 (x.drawn b l m (f ∙ ap (λ (z : ℕ). m + z) (each-one 1 h))) refl h);
+            rw q (picks_one ps inside s0 s1 (x.drawn b l m (f ∙ ap (λ (z : ℕ). m + z) (each-one 1 h))) h);
         passed = omega (arith, x.passed);
       }
 
@@ -112,8 +111,8 @@ module _ {lookup sorted seg : List ℕ} (ps : Planes) (inside : Bool) (s0 s1 : �
       record {
         picked = λ b l m f.
             let q : place e - n ≡ place d = omega (arith, y.passed) in
-            rw q (picks_two ps inside s0 s1 (x.drawn b l (m + 1) (f ∙ ap (λ (z : ℕ). m + z) (each_two 1 h) ∙ omega arith)) refl h
-            (y.drawn (place c) (m + 1) m refl) refl);
+            rw q (picks_two ps inside s0 s1 (x.drawn b l (m + 1) (f ∙ ap (λ (z : ℕ). m + z) (each_two 1 h) ∙ omega arith)) h
+            (y.drawn (place c) (m + 1) m refl));
         passed = omega (arith, y.passed);
       }
 
@@ -179,7 +178,7 @@ module _ {lookup sorted seg : List ℕ} {ps : Planes} {right bottom : Bool} {s0 
               } in
               record {
                 blamed = place q - n;
-                picking = picking_more moved more refl (s.picked y.blamed (m + each ps.two 1) m refl) refl room;
+                picking = picking_more moved more refl (s.picked y.blamed (m + each ps.two 1) m refl) room;
                 behind = λ z. refl;
               };
           passed = s.passed;

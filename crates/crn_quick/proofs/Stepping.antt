@@ -1,8 +1,9 @@
 -- A symbol and an index by the quick way are what the slow way draws.
+use Rattle.std.specs.Prelude.{Ok}
 use Prim.Native.Nat.{ℕ, ◌+◌, ◌-◌, ◌/◌, ◌%◌, ◌≤◌, ◌<◌}
 use mathlib.Core.Bool.{Bool}
 use mathlib.Core.List.{List}
-use mathlib.Core.Path.{◌≡◌, refl, sym, ap, subst, ◌∙◌}
+use mathlib.Core.Path.{◌≡◌, refl, sym, ap, ◌∙◌}
 use native.Mathlib.Omega.{arith}
 use Rattle.crn_format.specs.Limits.{max_entries, chunk_symbols}
 use Rattle.crn_format.specs.Reading.{symbol, got, spot, run}
@@ -13,52 +14,27 @@ use Rattle.crn_symbol_codec.specs.declared.Cursor.{Cursor}
 use Rattle.crn_symbol_codec.proofs.Drawing.{found-length, found-drawn}
 use Rattle.crn_symbol_codec.proofs.Holding.{place-past, after-drop}
 use Rattle.crn_symbol_codec.proofs.Taking.{takes-symbol}
-use Rattle.crn_chunks.specs.Meaning.{source, spending, Coded}
+use Rattle.crn_chunks.specs.Meaning.{source, spending, lookup_of, sorted_of, Coded, Served}
 use Rattle.crn_chunks.specs.Parts.{farthest, Encodes}
 use Rattle.crn_chunks.specs.declared.Planes.{Planes}
 use Rattle.crn_chunks.specs.declared.Stream.{Stream}
-use Rattle.crn_chunks.specs.declared.Encoded.TheVariants.{Code}
 use Rattle.crn_chunks.proofs.Drawing.{symbol-drawn}
 use Rattle.crn_chunks.proofs.Indexing.{index-near, reach_near}
 use Rattle.crn_chunks.proofs.Encoding.{code_got}
-use Rattle.crn_chunks.specs.declared.Carried.{Carried}
-use Rattle.crn_quick.specs.declared.Step.{Step}
-use Rattle.crn_quick.specs.declared.Step.TheVariants as step
-use Rattle.crn_quick.specs.declared.Steps.{Steps}
-use Rattle.crn_quick.specs.declared.Steps.TheVariants as steps
-use Rattle.crn_quick.specs.declared.Code.{Code as Coding}
-use Rattle.crn_quick.specs.declared.Code.TheVariants as code
-use Rattle.crn_quick.specs.declared.Quick.{Quick}
-use Rattle.crn_quick.specs.declared.Quick.TheVariants as quick
-use Rattle.crn_quick.specs.declared.QuickChunk.{QuickChunk}
-use Rattle.crn_quick.specs.declared.QuickChunk.TheVariants as chunk
-use Rattle.crn_quick.specs.Quick.{stream_at, WhenStep, WhenSteps, WhenCode, WhenQuick, WhenChunk, Found, Stepped}
-
--- ---- what holds of an answer that is taken apart
-
-pub when_step : (P : Cursor → ℕ → ℕ → Type 0) {a : Step} {d : Cursor} {v n : ℕ} → WhenStep P a → a ≡ step.Drawn d v n → P d v n
-when_step P h e = subst (WhenStep P) e h
-
-pub when_steps : (P : Cursor → ℕ → ℕ → ℕ → Type 0) {a : Steps} {d : Cursor} {i j n : ℕ} → WhenSteps P a → a ≡ steps.Pair d i j n → P d i j n
-when_steps P h e = subst (WhenSteps P) e h
-
-pub when_code : (P : ℕ → ℕ → Stream → Type 0) {a : Coding} {e v : ℕ} {t : Stream} → WhenCode P a → a ≡ code.Next e v t → P e v t
-when_code P h e = subst (WhenCode P) e h
-
-pub when_quick : (P : ℕ → ℕ → ℕ → ℕ → Stream → Type 0) {a : Quick} {e0 e1 s0 s1 : ℕ} {t : Stream} → WhenQuick P a
-    → a ≡ quick.Indices e0 e1 s0 s1 t → P e0 e1 s0 s1 t
-when_quick P h e = subst (WhenQuick P) e h
-
-pub when_chunk : (P : ℕ → Carried → Stream → Type 0) {a : QuickChunk} {e : ℕ} {r : Carried} {t : Stream} → WhenChunk P a
-    → a ≡ chunk.Chunk e r t → P e r t
-when_chunk P h e = subst (WhenChunk P) e h
+use Rattle.crn_quick.specs.Quick.{stream_at, Found, Stepped}
 
 -- ---- a symbol, and an index
 
 -- lk and so are the decoder table of number `which`, e is what the cursor's bits begin with
-module _ (lookup sorted : List ℕ) {seg lk so : List ℕ} (ps : Planes) (which : ℕ)
-    (decodes : (cs : ℕ → List ℕ) → Coded cs ps lookup sorted → Decodes (cs which) lk so) (u : Usable lk so)
-    {c : Cursor} (h : Holds seg c) (enough : 16 ≤ c.have) {e : ℕ} (is : e ≡ found_in lk so c.bits) (some : e ≡ 0 → ⊥) where
+module _ {lookup sorted seg lk so : List ℕ} {ps : Planes} {which : ℕ} (served : Served ps lookup sorted) (there : which < ps.tables)
+    (l : lk ≡ lookup_of ps lookup which) (o : so ≡ sorted_of ps sorted which) {c : Cursor} (h : Holds seg c) (enough : 16 ≤ c.have)
+    {e : ℕ} (is : e ≡ found_in lk so c.bits) (some : e ≡ 0 → ⊥) where
+  decodes : (cs : ℕ → List ℕ) → Coded cs ps lookup sorted → Decodes (cs which) lk so
+  decodes cs k = rw (l, o) (k which there)
+
+  u : Usable lk so
+  u = (decodes served.codes served.coded).usable
+
   pub code-short : e % 64 ≤ 16
   code-short = found-length h (λ few. absurd (omega arith)) u e is some
 
@@ -74,7 +50,7 @@ module _ (lookup sorted : List ℕ) {seg lk so : List ℕ} (ps : Planes) (which 
   drawn b l m f cs k =
       let r = found-drawn h (λ few. absurd (omega arith)) u e is some (omega (arith, code-short)) in
       let q : l - 1 ≡ m = omega arith in
-      rw q at (symbol-drawn (stream_at c b l) (takes-symbol r (decodes cs k)) (λ z. omega arith) {at = place c} refl refl)
+      rw q at (symbol-drawn (stream_at c b l) {at = place c} (takes-symbol r (decodes cs k)) (λ z. omega arith) refl)
 
   pub found : e / 64 < farthest → Found lookup sorted seg ps which c (past c (e % 64)) (e / 64) (e % 64)
   found n = record { drawn = λ b l m f. record { same = λ cs k. sym (drawn b l m f cs k); on = (code_holds, n) }; passed = code-passed }
@@ -101,7 +77,7 @@ module _ {lookup sorted seg : List ℕ} {ps : Planes} {which : ℕ} {c d : Curso
 -- a chunk symbol u in range gives an encoding; c is the stream's cursor, filled
 pub found-code : {lookup sorted seg : List ℕ} {ps : Planes} {s : Stream} {c d : Cursor} {u len : ℕ} → Found lookup sorted seg ps 0 c d u len
     → place c ≡ place s.cursor → (v : ℕ) → v < 8 → u < chunk_symbols → 0 < s.left → {b : ℕ} → b ≡ place c
-    → Encodes lookup sorted seg ps v s (Code (u % 8) (64 + u / 8 % 64) (stream_at d b (s.left - 1)))
+    → Encodes lookup sorted seg ps v s (Ok (u % 8, 64 + u / 8 % 64, stream_at d b (s.left - 1)))
 found-code {seg = seg} {s = s} x at v none few some {b} q =
     let r = x.drawn s.blamed s.left (s.left - 1) (omega arith) in
     rw q (record {

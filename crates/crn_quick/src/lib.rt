@@ -1,6 +1,7 @@
-// A chunk by a quick way (document 01, Chunks). Its cursor stands in registers, and the budget is looked at once: where the quick way is lost
-// nothing is known, and the chunk is read anew by the way that finds the refusal, `crn_chunks::read_chunk`. It is lost at every refusal, near the
-// segment's end, where a plane's codes are too long for the bits at hand, and at an index out of range, even where no block uses it.
+// A chunk by a quick way (document 01, Chunks). Its cursor stands in registers, and the budget is looked at once: where the quick way is
+// lost nothing is known, and the chunk is read anew by the way that finds the refusal, `crn_chunks::read_chunk`. It is lost at every
+// refusal, near the segment's end, where a plane's codes are too long for the bits at hand, and at an index out of range, even where no
+// block uses it.
 #![tactic(auto)]
 
 ghost use Rattle.std.specs.Prelude.{◌≡◌, true, false, ◌+◌, ◌<◌, ◌≤◌, length};
@@ -8,315 +9,194 @@ ghost use Rattle.crn_format.specs.Limits.{too_long, max_entries};
 ghost use Rattle.crn_chunks.specs.Meaning.{Onward, Served, Named, Small, most};
 ghost use Rattle.crn_chunks.specs.Parts.{Ready};
 ghost use Rattle.crn_chunks.specs.Reads.{Reads};
-ghost use Rattle.crn_quick.specs.Quick.{Able, each as each_of, QuickFound, QuickStepped, QuickTiled, QuickAllTiled, QuickPicks, QuickAllPicked, QuickEncodes, QuickRead, QuickReads};
+ghost use Rattle.crn_quick.specs.Quick.{Able, each as each_of, QuickFound, QuickStepped, QuickTiled, QuickAllTiled, QuickPicks};
+ghost use Rattle.crn_quick.specs.Quick.{QuickAllPicked, QuickEncodes, QuickRead, QuickReads};
 
-use crn_chunks::{Carried, Chunked, Planes, Side, Stream};
+use crn_chunks::{Carried, Chunk, Side, Stream, Supply};
 use crn_consts::tile_count;
 use crn_short_draw::filled;
 use crn_symbol_codec::{Cursor, entry, place, refill};
 use crn_utils::limit;
 
-// Each answer is taken apart by `let .. else`: where a draw brings no symbol the quick way ends at once.
-
-// A symbol or an index, with the cursor after it and the length of its code.
-#[derive(Clone, Copy)]
-pub enum Step {
-    Drawn(Cursor, u64, u64),
-    Lost,
-}
-
-// An index of each plane, and the length of the last; of one plane the second has no meaning.
-#[derive(Clone, Copy)]
-pub enum Steps {
-    Pair(Cursor, u64, u64, u64),
-    Lost,
-}
-
-// An encoding, what is pending after it, and the stream.
-#[derive(Clone, Copy)]
-pub enum Code {
-    Next(u32, u32, Stream),
-    Lost,
-}
-
-// The last indices of a chunk's tiles, then of its positions, and the stream.
-#[derive(Clone, Copy)]
-pub enum Quick {
-    Indices(u64, u64, u64, u64, Stream),
-    Lost,
-}
-
-// A chunk as read: its encoding, what is carried on, and the stream.
-#[derive(Clone, Copy)]
-enum QuickChunk {
-    Chunk(u32, Carried, Stream),
-    Lost,
-}
+// Where a draw brings no symbol the quick way ends at once, with None.
 
 // n for each plane.
 fn each(two: bool, n: u64) -> u64
     requires { n ≤ 8 }
     ensures { (result ≡ each_of two n) × (result ≤ 16) }
 {
-    if two {
-        return n + n;
-    }
-    n
+    if two { n + n } else { n }
 }
 
-// A symbol of table number `which`, from a cursor that has 16 bits, with no budget to look at.
-fn quick_symbol(
-    lookup: &[u32],
-    sorted: &[u16],
-    seg: &[u8],
-    ps: Planes,
-    which: usize,
-    c: Cursor,
-) -> Step
-    requires able { Able lookup.now sorted.now seg.now ps c }
-    requires which_in { which < ps.tables }
-    ensures { QuickFound lookup.now sorted.now seg.now ps which c result }
+// A symbol of table number `which`, with the cursor after it and the length of its code; from a cursor that has 16 bits, with no budget to
+// look at.
+fn quick_symbol(supply: &Supply, which: usize, c: Cursor) -> Option<(Cursor, u64, u64)>
+    requires able { Able supply.now.lookup.now supply.now.sorted.now supply.now.seg.now supply.now.planes c }
+    requires which_in { which < supply.now.planes.tables }
+    ensures { QuickFound supply.now.lookup.now supply.now.sorted.now supply.now.seg.now supply.now.planes which c result }
 {
-    let from = which * ps.lookup_step;
-    let first = which * ps.sorted_step;
-    let end = from + ps.lookup_step;
-    let last = first + ps.sorted_step;
-    let bits = c.bits;
-    let have = c.have;
-    let next = c.next;
-    if have < 16 {
-        return Step::Lost;
+    if c.have < 16 {
+        return None;
     }
-    let e = entry(&lookup[from..end], &sorted[first..last], bits);
+    let e = entry(supply.decoder(which), c.bits);
     if e == 0 {
-        return Step::Lost;
+        return None;
     }
-    let length = (e % 64) as u64;
+    let length = u64::from(e % 64);
     let cursor = Cursor {
-        bits: bits << length,
-        have: have - length,
-        next,
+        bits: c.bits << length,
+        have: c.have - length,
+        next: c.next,
     };
-    Step::Drawn(cursor, (e / 64) as u64, length)
+    Some((cursor, u64::from(e / 64), length))
 }
 
-// An index, from a cursor that has 16 bits.
+// An index, with the same after it; from a cursor that has 16 bits.
 fn quick_index(
-    lookup: &[u32],
-    sorted: &[u16],
-    seg: &[u8],
-    ps: Planes,
+    supply: &Supply,
     which: usize,
     size: u64,
     i: u64,
     c: Cursor,
-) -> Step
-    requires able { Able lookup.now sorted.now seg.now ps c }
-    requires which_in { which < ps.tables }
+) -> Option<(Cursor, u64, u64)>
+    requires able { Able supply.now.lookup.now supply.now.sorted.now supply.now.seg.now supply.now.planes c }
+    requires which_in { which < supply.now.planes.tables }
     requires size_in { size ≤ max_entries }
     requires i_in { i < most }
-    ensures { QuickStepped lookup.now sorted.now seg.now ps which size i c result }
+    ensures { QuickStepped supply.now.lookup.now supply.now.sorted.now supply.now.seg.now supply.now.planes which size i c result }
 {
-    let Step::Drawn(cursor, delta, length) = quick_symbol(lookup, sorted, seg, ps, which, c) else {
-        return Step::Lost;
-    };
+    let (cursor, delta, length) = quick_symbol(supply, which, c)?;
     let index = limit(i + delta, size);
     if size <= index {
-        return Step::Lost;
+        return None;
     }
-    Step::Drawn(cursor, index, length)
+    Some((cursor, index, length))
 }
 
-// The endpoint indices of a plane's n tiles, as `plane_tiles` reads them. The bits at hand have to do: a refill has them for three, and mostly for four.
-// (With a refill in it this would be too long for the compiler to take in twice.)
+// The endpoint indices of a plane's n tiles, as `plane_tiles` reads them; and the last of them. The bits at hand have to do: a refill has
+// them for three, and mostly for four. (With a refill in it this would be too long for the compiler to take in twice.)
 fn quick_plane(
-    lookup: &[u32],
-    sorted: &[u16],
-    seg: &[u8],
-    ps: Planes,
+    supply: &Supply,
     p: Side,
     base: usize,
     n: usize,
     i: u64,
     c: Cursor,
     out: &mut [u64],
-) -> Step
-    requires able { Able lookup.now sorted.now seg.now ps c }
-    requires named { Named ps p }
+) -> Option<(Cursor, u64)>
+    requires able { Able supply.now.lookup.now supply.now.sorted.now supply.now.seg.now supply.now.planes c }
+    requires named { Named supply.now.planes p }
     requires small { Small p }
     requires i_in { i < most }
     requires range_in { base + n ≤ length out.old }
-    ensures { QuickTiled lookup.now sorted.now seg.now ps p base n i c out.old out.new result }
+    ensures { QuickTiled supply.now.lookup.now supply.now.sorted.now supply.now.seg.now supply.now.planes
+        p base n i c out.old out.new result }
 {
     let mut at = c;
     let mut last = i;
-    let mut k: usize = 0;
-    while k < n {
-        let Step::Drawn(after, j, _) = quick_index(
-            lookup,
-            sorted,
-            seg,
-            ps,
-            p.ends,
-            p.endpoints,
-            last,
-            at,
-        ) else {
-            return Step::Lost;
-        };
+    for k in 0..n {
+        let (after, j, _) = quick_index(supply, p.ends, p.endpoints, last, at)?;
         out[base + k] = j;
         last = j;
         at = after;
-        k += 1;
     }
-    Step::Drawn(at, last, 0)
+    Some((at, last))
 }
 
-// The same for each plane.
+// The same for each plane; of one plane the second index has no meaning.
 fn quick_tiles(
-    lookup: &[u32],
-    sorted: &[u16],
-    seg: &[u8],
-    ps: Planes,
+    supply: &Supply,
     n: usize,
     e0: u64,
     e1: u64,
     c: Cursor,
     out: &mut [u64],
-) -> Steps
-    requires able { Able lookup.now sorted.now seg.now ps c }
+) -> Option<(Cursor, u64, u64)>
+    requires able { Able supply.now.lookup.now supply.now.sorted.now supply.now.seg.now supply.now.planes c }
     requires encodings_in { (e0 < most) × (e1 < most) }
     requires n_in { n ≤ 4 }
     requires out_long { length out.old ≡ 16 }
-    ensures { QuickAllTiled lookup.now sorted.now seg.now ps n e0 e1 c out.new result }
+    ensures { QuickAllTiled supply.now.lookup.now supply.now.sorted.now supply.now.seg.now supply.now.planes n e0 e1 c out.new result }
 {
-    let c0 = refill(seg, c);
-    let p = ps.first;
-    let Step::Drawn(d, i, _) = quick_plane(lookup, sorted, seg, ps, p, 0, n, e0, c0, out) else {
-        return Steps::Lost;
-    };
-    let two = ps.two;
-    if two {
-        let d0 = refill(seg, d);
-        let q = ps.second;
-        let Step::Drawn(e, j, _) = quick_plane(lookup, sorted, seg, ps, q, 4, n, e1, d0, out) else {
-            return Steps::Lost;
-        };
-        return Steps::Pair(e, i, j, 0);
+    let c0 = refill(supply.seg, c);
+    let (d, i) = quick_plane(supply, supply.planes.first, 0, n, e0, c0, out)?;
+    if !supply.planes.two {
+        return Some((d, i, e1));
     }
-    Steps::Pair(d, i, e1, 0)
+    let d0 = refill(supply.seg, d);
+    let (e, j) = quick_plane(supply, supply.planes.second, 4, n, e1, d0, out)?;
+    Some((e, i, j))
 }
 
-// The selector indices of two planes at a position, as `position` reads them.
-fn quick_pair(
-    lookup: &[u32],
-    sorted: &[u16],
-    seg: &[u8],
-    ps: Planes,
-    s0: u64,
-    s1: u64,
-    c: Cursor,
-) -> Steps
-    requires able { Able lookup.now sorted.now seg.now ps c }
+// The selector indices of two planes at a position, as `position` reads them, and the length of the last one's code.
+fn quick_pair(supply: &Supply, s0: u64, s1: u64, c: Cursor) -> Option<(Cursor, u64, u64, u64)>
+    requires able { Able supply.now.lookup.now supply.now.sorted.now supply.now.seg.now supply.now.planes c }
     requires symbols_in { (s0 < most) × (s1 < most) }
-    requires two_planes { ps.two ≡ true }
-    ensures { QuickPicks lookup.now sorted.now seg.now ps s0 s1 c result }
+    requires two_planes { supply.now.planes.two ≡ true }
+    ensures { QuickPicks supply.now.lookup.now supply.now.sorted.now supply.now.seg.now supply.now.planes s0 s1 c result }
 {
-    let p = ps.first;
-    let Step::Drawn(d, i, _) = quick_index(lookup, sorted, seg, ps, p.sels, p.selectors, s0, c)
-    else {
-        return Steps::Lost;
-    };
-    let q = ps.second;
-    let Step::Drawn(e, j, length) = quick_index(lookup, sorted, seg, ps, q.sels, q.selectors, s1, d)
-    else {
-        return Steps::Lost;
-    };
-    Steps::Pair(e, i, j, length)
+    let p = supply.planes.first;
+    let (d, i, _) = quick_index(supply, p.sels, p.selectors, s0, c)?;
+    let q = supply.planes.second;
+    let (e, j, length) = quick_index(supply, q.sels, q.selectors, s1, d)?;
+    Some((e, i, j, length))
 }
 
 // Those at the four positions, as `positions` reads them. A refill has bits for a position.
 fn pair_positions(
-    lookup: &[u32],
-    sorted: &[u16],
-    seg: &[u8],
-    ps: Planes,
+    supply: &Supply,
     s0: u64,
     s1: u64,
     c: Cursor,
     out: &mut [u64],
-) -> Steps
-    requires able { Able lookup.now sorted.now seg.now ps c }
+) -> Option<(Cursor, u64, u64, u64)>
+    requires able { Able supply.now.lookup.now supply.now.sorted.now supply.now.seg.now supply.now.planes c }
     requires symbols_in { (s0 < most) × (s1 < most) }
     requires out_long { length out.old ≡ 16 }
-    requires two_planes { ps.two ≡ true }
-    ensures { QuickAllPicked lookup.now sorted.now seg.now ps s0 s1 c out.old out.new result }
+    requires two_planes { supply.now.planes.two ≡ true }
+    ensures { QuickAllPicked supply.now.lookup.now supply.now.sorted.now supply.now.seg.now supply.now.planes
+        s0 s1 c out.old out.new result }
 {
     let mut at = c;
     let mut i0 = s0;
     let mut i1 = s1;
-    let mut length: u64 = 0;
-    let mut k: usize = 0;
-    while k < 4 {
-        let d = refill(seg, at);
-        let Steps::Pair(e, i, j, l) = quick_pair(lookup, sorted, seg, ps, i0, i1, d) else {
-            return Steps::Lost;
-        };
+    let mut length = 0;
+    for k in 0..4 {
+        let d = refill(supply.seg, at);
+        let (e, i, j, l) = quick_pair(supply, i0, i1, d)?;
         out[8 + k] = i;
         out[12 + k] = j;
         i0 = i;
         i1 = j;
         length = l;
         at = e;
-        k += 1;
     }
-    Steps::Pair(at, i0, i1, length)
+    Some((at, i0, i1, length))
 }
 
-// Those of one plane. A refill has bits for three positions, and mostly for four; without a loop the compiler keeps all four indices in registers.
+// Those of one plane. A refill has bits for three positions, and mostly for four; without a loop the compiler keeps all four indices in
+// registers.
 fn single_positions(
-    lookup: &[u32],
-    sorted: &[u16],
-    seg: &[u8],
-    ps: Planes,
+    supply: &Supply,
     s0: u64,
     s1: u64,
     c: Cursor,
     out: &mut [u64],
-) -> Steps
-    requires able { Able lookup.now sorted.now seg.now ps c }
+) -> Option<(Cursor, u64, u64, u64)>
+    requires able { Able supply.now.lookup.now supply.now.sorted.now supply.now.seg.now supply.now.planes c }
     requires symbols_in { (s0 < most) × (s1 < most) }
     requires out_long { length out.old ≡ 16 }
-    requires one_plane { ps.two ≡ false }
-    ensures { QuickAllPicked lookup.now sorted.now seg.now ps s0 s1 c out.old out.new result }
+    requires one_plane { supply.now.planes.two ≡ false }
+    ensures { QuickAllPicked supply.now.lookup.now supply.now.sorted.now supply.now.seg.now supply.now.planes
+        s0 s1 c out.old out.new result }
 {
-    let p = ps.first;
-    let c0 = refill(seg, c);
-    let Step::Drawn(c1, i, _) = quick_index(lookup, sorted, seg, ps, p.sels, p.selectors, s0, c0)
-    else {
-        return Steps::Lost;
-    };
-    let Step::Drawn(c2, j, _) = quick_index(lookup, sorted, seg, ps, p.sels, p.selectors, i, c1)
-    else {
-        return Steps::Lost;
-    };
-    let Step::Drawn(after, k, _) = quick_index(lookup, sorted, seg, ps, p.sels, p.selectors, j, c2)
-    else {
-        return Steps::Lost;
-    };
-    let c3 = filled(seg, after);
-    let Step::Drawn(end, l, length) = quick_index(
-        lookup,
-        sorted,
-        seg,
-        ps,
-        p.sels,
-        p.selectors,
-        k,
-        c3,
-    ) else {
-        return Steps::Lost;
-    };
+    let p = supply.planes.first;
+    let c0 = refill(supply.seg, c);
+    let (c1, i, _) = quick_index(supply, p.sels, p.selectors, s0, c0)?;
+    let (c2, j, _) = quick_index(supply, p.sels, p.selectors, i, c1)?;
+    let (after, k, _) = quick_index(supply, p.sels, p.selectors, j, c2)?;
+    let c3 = filled(supply.seg, after);
+    let (end, l, length) = quick_index(supply, p.sels, p.selectors, k, c3)?;
     out[8] = i;
     out[12] = 0;
     out[9] = j;
@@ -325,128 +205,100 @@ fn single_positions(
     out[14] = 0;
     out[11] = l;
     out[15] = 0;
-    Steps::Pair(end, l, 0, length)
+    Some((end, l, 0, length))
 }
 
-// The selector indices at the four positions.
+// The selector indices at the four positions; the last of each plane, and the length of the last one's code.
 fn quick_positions(
-    lookup: &[u32],
-    sorted: &[u16],
-    seg: &[u8],
-    ps: Planes,
+    supply: &Supply,
     s0: u64,
     s1: u64,
     c: Cursor,
     out: &mut [u64],
-) -> Steps
-    requires { (Able lookup.now sorted.now seg.now ps c) × (((s0 < most) × (s1 < most)) × (length out.old ≡ 16)) }
-    ensures { QuickAllPicked lookup.now sorted.now seg.now ps s0 s1 c out.old out.new result }
+) -> Option<(Cursor, u64, u64, u64)>
+    requires able { Able supply.now.lookup.now supply.now.sorted.now supply.now.seg.now supply.now.planes c }
+    requires symbols_in { (s0 < most) × (s1 < most) }
+    requires out_long { length out.old ≡ 16 }
+    ensures { QuickAllPicked supply.now.lookup.now supply.now.sorted.now supply.now.seg.now supply.now.planes
+        s0 s1 c out.old out.new result }
 {
-    let two = ps.two;
-    if two {
-        return pair_positions(lookup, sorted, seg, ps, s0, s1, c, out);
+    if supply.planes.two {
+        pair_positions(supply, s0, s1, c, out)
+    } else {
+        single_positions(supply, s0, s1, c, out)
     }
-    single_positions(lookup, sorted, seg, ps, s0, s1, c, out)
 }
 
-// The tiles and positions of a chunk. They are 16 indices at most, and the budget is known to have so many.
+// The tiles and positions of a chunk: the last indices of its tiles, then of its positions, and the stream. They are 16 indices at most,
+// and the budget is known to have so many.
 fn quick_chunk(
-    lookup: &[u32],
-    sorted: &[u16],
-    seg: &[u8],
-    ps: Planes,
+    supply: &Supply,
     n: usize,
     r: Carried,
     s: Stream,
     out: &mut [u64],
-) -> Quick
-    requires seg_long { length seg.now < too_long }
-    requires served { Served ps lookup.now sorted.now }
-    requires onward { Onward seg.now r s }
+) -> Option<(u64, u64, u64, u64, Stream)>
+    requires seg_long { length supply.now.seg.now < too_long }
+    requires served { Served supply.now.planes supply.now.lookup.now supply.now.sorted.now }
+    requires onward { Onward supply.now.seg.now r s }
     requires enough_left { (n ≤ 4) × (16 ≤ s.left) }
     requires out_long { length out.old ≡ 16 }
-    ensures { QuickRead lookup.now sorted.now seg.now ps n r s out.new result }
+    ensures { QuickRead supply.now.lookup.now supply.now.sorted.now supply.now.seg.now supply.now.planes n r s out.new result }
 {
-    let c = s.cursor;
-    let Steps::Pair(d, e0, e1, _) = quick_tiles(lookup, sorted, seg, ps, n, r.e0, r.e1, c, out)
-    else {
-        return Quick::Lost;
-    };
-    let Steps::Pair(e, s0, s1, length) = quick_positions(
-        lookup, sorted, seg, ps, r.s0, r.s1, d, out,
-    ) else {
-        return Quick::Lost;
-    };
-    let drawn = each(ps.two, n as u64 + 4);
+    let (d, e0, e1) = quick_tiles(supply, n, r.e0, r.e1, s.cursor, out)?;
+    let (e, s0, s1, length) = quick_positions(supply, r.s0, r.s1, d, out)?;
+    let drawn = each(supply.planes.two, n as u64 + 4);
     let stream = Stream {
         cursor: e,
-        blamed: place(seg, e) - length as usize,
+        blamed: place(supply.seg, e) - length as usize,
         left: s.left - drawn,
     };
-    Quick::Indices(e0, e1, s0, s1, stream)
+    Some((e0, e1, s0, s1, stream))
 }
 
-// The next encoding: one that is pending, or the first of a chunk symbol.
-fn quick_code(
-    lookup: &[u32],
-    sorted: &[u16],
-    seg: &[u8],
-    ps: Planes,
-    pending: u32,
-    s: Stream,
-) -> Code
-    requires ready { Ready lookup.now sorted.now seg.now ps s }
+// The next encoding, what is then pending, and the stream: one that is pending, or the first of a chunk symbol.
+fn quick_code(supply: &Supply, pending: u32, s: Stream) -> Option<(u32, u32, Stream)>
+    requires ready { Ready supply.now.lookup.now supply.now.sorted.now supply.now.seg.now supply.now.planes s }
     requires some_left { 0 < s.left }
-    ensures { QuickEncodes lookup.now sorted.now seg.now ps pending s result }
+    ensures { QuickEncodes supply.now.lookup.now supply.now.sorted.now supply.now.seg.now supply.now.planes pending s result }
 {
     if 64 <= pending {
-        return Code::Next(pending % 8, 8 + pending / 8 % 8, s);
+        return Some((pending % 8, 8 + pending / 8 % 8, s));
     }
     if 8 <= pending {
-        return Code::Next(pending % 8, 0, s);
+        return Some((pending % 8, 0, s));
     }
-    let c = s.cursor;
-    let d = filled(seg, c);
-    let Step::Drawn(cursor, v, _) = quick_symbol(lookup, sorted, seg, ps, 0, d) else {
-        return Code::Lost;
-    };
+    let d = filled(supply.seg, s.cursor);
+    let (cursor, v, _) = quick_symbol(supply, 0, d)?;
     if 1024 <= v {
-        return Code::Lost;
+        return None;
     }
     let stream = Stream {
         cursor,
-        blamed: place(seg, d),
+        blamed: place(supply.seg, d),
         left: s.left - 1,
     };
-    Code::Next((v % 8) as u32, (64 + v / 8 % 64) as u32, stream)
+    Some(((v % 8) as u32, (64 + v / 8 % 64) as u32, stream))
 }
 
-// A chunk by the quick way.
+// A chunk by the quick way: its encoding, what is carried on, and the stream.
 fn quick_read(
-    lookup: &[u32],
-    sorted: &[u16],
-    seg: &[u8],
-    ps: Planes,
+    supply: &Supply,
     r: Carried,
     s: Stream,
     out: &mut [u64; 16],
-) -> QuickChunk
-    requires seg_long { length seg.now < too_long }
-    requires served { Served ps lookup.now sorted.now }
-    requires onward { Onward seg.now r s }
-    ensures { QuickReads lookup.now sorted.now seg.now ps r s out.new result }
+) -> Option<(u32, Carried, Stream)>
+    requires seg_long { length supply.now.seg.now < too_long }
+    requires served { Served supply.now.planes supply.now.lookup.now supply.now.sorted.now }
+    requires onward { Onward supply.now.seg.now r s }
+    ensures { QuickReads supply.now.lookup.now supply.now.sorted.now supply.now.seg.now supply.now.planes r s out.new result }
 {
     if s.left < 17 {
-        return QuickChunk::Lost;
+        return None;
     }
-    let Code::Next(encoding, pending, t) = quick_code(lookup, sorted, seg, ps, r.pending, s) else {
-        return QuickChunk::Lost;
-    };
+    let (encoding, pending, t) = quick_code(supply, r.pending, s)?;
     let n = tile_count(encoding) as usize;
-    let Quick::Indices(e0, e1, s0, s1, after) = quick_chunk(lookup, sorted, seg, ps, n, r, t, out)
-    else {
-        return QuickChunk::Lost;
-    };
+    let (e0, e1, s0, s1, after) = quick_chunk(supply, n, r, t, out)?;
     let next = Carried {
         pending,
         e0,
@@ -454,37 +306,25 @@ fn quick_read(
         s0,
         s1,
     };
-    QuickChunk::Chunk(encoding, next, after)
+    Some((encoding, next, after))
 }
 
-// A chunk, as `crn_chunks::read_chunk` reads it. What that call takes is copied where it is made, so that the rest stays in registers.
+// A chunk, as `crn_chunks::read_chunk` reads it: by the quick way, or where that is lost by that function.
 pub fn read_chunk(
-    lookup: &[u32],
-    sorted: &[u16],
-    seg: &[u8],
-    ps: Planes,
+    supply: &Supply,
     right: bool,
     bottom: bool,
     r: Carried,
     s: Stream,
     out: &mut [u64; 16],
-) -> Chunked
-    requires seg_long { length seg.now < too_long }
-    requires served { Served ps lookup.now sorted.now }
-    requires onward { Onward seg.now r s }
-    ensures { Reads lookup.now sorted.now seg.now ps right bottom r s out.new result }
+) -> Chunk
+    requires seg_long { length supply.now.seg.now < too_long }
+    requires served { Served supply.now.planes supply.now.lookup.now supply.now.sorted.now }
+    requires onward { Onward supply.now.seg.now r s }
+    ensures { Reads supply.now.lookup.now supply.now.sorted.now supply.now.seg.now supply.now.planes right bottom r s out.new result }
 {
-    let QuickChunk::Chunk(encoding, next, after) = quick_read(lookup, sorted, seg, ps, r, s, out)
-    else {
-        let lookups = lookup;
-        let sorteds = sorted;
-        let segment = seg;
-        let planes = ps;
-        let carried = r;
-        let stream = s;
-        return crn_chunks::read_chunk(
-            lookups, sorteds, segment, planes, right, bottom, carried, stream, out,
-        );
+    let Some(read) = quick_read(supply, r, s, out) else {
+        return crn_chunks::read_chunk(supply, right, bottom, r, s, out);
     };
-    Chunked::Read(encoding, next, after)
+    Ok(read)
 }

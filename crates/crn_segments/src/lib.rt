@@ -33,20 +33,16 @@ fn part_stands(file: &[u8], part: Part) -> bool
 pub fn segments_stand(file: &[u8], h: Header) -> bool
     ensures { result ≡ segments_stand file.now h }
 {
-    let color_endpoints = h.color_endpoints;
-    let color_selectors = h.color_selectors;
-    let alpha_endpoints = h.alpha_endpoints;
-    let alpha_selectors = h.alpha_selectors;
     stands(file, h.tables_offset, h.tables_size)
         & of_plane(
-            color_endpoints,
-            part_stands(file, color_endpoints),
-            part_stands(file, color_selectors),
+            h.color_endpoints,
+            part_stands(file, h.color_endpoints),
+            part_stands(file, h.color_selectors),
         )
         & of_plane(
-            alpha_endpoints,
-            part_stands(file, alpha_endpoints),
-            part_stands(file, alpha_selectors),
+            h.alpha_endpoints,
+            part_stands(file, h.alpha_endpoints),
+            part_stands(file, h.alpha_selectors),
         )
 }
 

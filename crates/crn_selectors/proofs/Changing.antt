@@ -1,4 +1,5 @@
 -- A turn of `changed`: a symbol changes the j-th of eight pairs of values.
+use Rattle.std.specs.Prelude.{Ok, Err}
 use Prim.Native.Nat.{ℕ, suc, ◌+◌, ◌-◌, ◌*◌, ◌<◌, ◌≤◌}
 use mathlib.Core.List.{List}
 use mathlib.Core.Path.{◌≡◌, refl, sym, ap, ◌∙◌}
@@ -10,10 +11,12 @@ use Rattle.crn_format.specs.Reading.{a_symbol, Reading, answer, refuse, mark, dr
 use Rattle.crn_format.specs.Palettes.{changed, delta_count, pair_moved}
 use Rattle.crn_format.proofs.Steps.{at-refuse}
 use Rattle.crn_symbol_codec.specs.Cursors.{place}
-use Rattle.crn_symbol_codec.specs.Taking.{Takes}
+use Rattle.crn_format.specs.Refusals.{number_of}
+use Rattle.crn_format.specs.declared.Refusal.{Refusal}
+use Rattle.crn_format.specs.declared.Refusal.TheVariants.{NoSelector}
+use Rattle.crn_symbol_codec.specs.Telling.{fault}
+use Rattle.crn_symbol_codec.specs.Taking.{Taken, Takes}
 use Rattle.crn_symbol_codec.specs.declared.Cursor.{Cursor}
-use Rattle.crn_symbol_codec.specs.declared.Taken.{Taken}
-use Rattle.crn_symbol_codec.specs.declared.Taken.TheVariants.{Value, Failed}
 use Rattle.crn_symbol_codec.proofs.Serving.{taken-value}
 use Rattle.crn_palettes.proofs.Leaving.{Left, left_is, left-mark, left-drawn, left-failed, at_noted}
 
@@ -39,10 +42,10 @@ module _ {seg : List ℕ} {top : ℕ} {t : List ℕ} {j : ℕ} {vs : List ℕ} {
         let m : 8 - j ≡ suc (8 - (j + 1)) = omega arith in
         left_is (ap (λ (n : ℕ). changed top t n j vs) m) x.left
 
-    pub pair-failed : {n : ℕ} → r ≡ Failed n → whole ≡ refused n (spot (place at) (place at))
-    pair-failed e = left-failed (left-mark pair-first) k e
+    pub pair-failed : {n : Refusal} {p : ℕ} → r ≡ Err n → p ≡ place at → whole ≡ fault (record { refusal = n; at = p })
+    pair-failed {n} e q = left-failed (left-mark pair-first) k e ∙ ap (λ (p : ℕ). refused (number_of n) (spot p p)) (sym q)
 
-    module _ {s : ℕ} {d : Cursor} (e : r ≡ Value s d) where
+    module _ {s : ℕ} {d : Cursor} (e : r ≡ Ok (s, d)) where
       pub pair-more : {n : ℕ} {ws : List ℕ} → n ≡ delta_count top * delta_count top → s < n → ws ≡ pair_moved top j s vs → Changed seg top t
           (j + 1) ws d whole
       unfolding meant
@@ -55,14 +58,16 @@ module _ {seg : List ℕ} {top : ℕ} {t : List ℕ} {j : ℕ} {vs : List ℕ} {
           }
 
       -- a symbol with no meaning: its first bit is named
-      pub pair_bad : {n : ℕ} → n ≡ delta_count top * delta_count top → n ≤ s → whole ≡ refused 9 (spot (place at) (place at))
+      pub pair_bad : {n p : ℕ} → n ≡ delta_count top * delta_count top → n ≤ s → p ≡ place at → whole ≡ fault
+          (record { refusal = NoSelector; at = p })
       unfolding meant
-      pair_bad m l =
+      pair_bad m l q =
           sym (at_noted pair-first)
           ∙ taken-value k meant (place at) e
           ∙ ap (λ b. run (from_bits seg) (pick b (changed top t (8 - (j + 1)) (j + 1) (pair_moved top j s vs)) (refuse 9))
           (spot (place d) (place at))) (le-ltb _ _ (rw m at l))
           ∙ at-refuse seg 9 (place d) (place at)
+          ∙ ap (λ (p : ℕ). refused 9 (spot p p)) (sym q)
 
   pub pairs_done : 8 ≤ j → Left seg (answer vs) at whole
   unfolding changed

@@ -11,7 +11,7 @@ use lib.Seq.{get_or-set_same, get_or-set_other, set_out}
 use Rattle.crn_format.specs.Palettes.{delta_count, raised, pair_moved, from_linear}
 use Rattle.crn_format.proofs.Zeros.{zeros-at}
 use Rattle.crn_format.proofs.SelectorOrder.{written-within}
-use Rattle.crn_selectors.specs.Selectors.{top_of, pairs_of, bits_of, Halves, values_of, Pairs, PairDelta, PairMoved, written_pair}
+use Rattle.crn_selectors.specs.Selectors.{top_of, bits_of, Halves, values_of, Pairs, PairDelta, PairMoved, written_pair}
 use Rattle.crn_selectors.proofs.Packing.{Packed, packed-kept, two_fit, packed-two}
 
 -- ---- a list by its indices
@@ -48,21 +48,6 @@ values_set (x ∷ ps) (suc j) p =
     let u : 2 * suc j + 1 ≡ suc (suc (2 * j + 1)) = omega arith in
     rw (u, t) (ap (λ (l : List ℕ). x % 16 ∷ x / 16 ∷ l) (values_set ps j p))
 
--- ---- the halves of a byte
-
-pub low_half : (a b : ℕ) → a < 16 → (a + 16 * b) % 16 ≡ a
-low_half a b h = omega arith
-
-pub high_half : (a b : ℕ) → a < 16 → (a + 16 * b) / 16 ≡ b
-high_half a b h = omega arith
-
--- the halves of a sum, where the low ones do not carry
-low_sum : (x y : ℕ) → x % 16 ≤ 7 → y % 16 ≤ 7 → (x + y) % 16 ≡ x % 16 + y % 16
-low_sum x y h l = omega arith
-
-high_sum : (x y : ℕ) → x % 16 ≤ 7 → y % 16 ≤ 7 → (x + y) / 16 ≡ x / 16 + y / 16
-high_sum x y h l = omega arith
-
 -- ---- how far a half goes
 
 below_top : (alpha : Bool) {x : ℕ} (y : ℕ) → x ≡ y % (top_of alpha + 1) → x ≤ top_of alpha
@@ -80,13 +65,15 @@ pub moved-halves : {alpha : Bool} {pair delta r : ℕ} → PairMoved alpha pair 
 moved-halves {alpha} {pair} {delta} m =
     record { first = below_top alpha (pair % 16 + delta % 16) m.first; second = below_top alpha (pair / 16 + delta / 16) m.second }
 
-pub pairs-few : (alpha : Bool) → pairs_of alpha ≤ 225
-pairs-few true = omega arith
-pairs-few false = omega arith
-
 pub halves_small : (alpha : Bool) {pair : ℕ} → Halves alpha pair → pair < 128
 halves_small true h = omega arith
 halves_small false h = omega arith
+
+-- a symbol's deltas, one in each half
+pub pair_delta_is : (alpha : Bool) {t u : ℕ} → t ≡ top_of alpha → u ≡ top_of alpha → (s : ℕ) → PairDelta alpha s
+    ((s % (2 * t + 1) + 1) % (u + 1) + 16 * ((s / (2 * t + 1) + 1) % (u + 1)))
+pair_delta_is true e f s = rw (e, f) (record { first = omega arith; second = omega arith })
+pair_delta_is false e f s = rw (e, f) (record { first = omega arith; second = omega arith })
 
 -- all pairs are zero at first
 halves-none : (alpha : Bool) → Halves alpha 0
@@ -102,32 +89,6 @@ written_small true v = omega (arith, written-within 7 v (omega arith))
 written_small false v = omega (arith, written-within 3 v (omega arith))
 
 -- ---- a pair that is moved
-
-low_eight : (x : ℕ) → x % 8 ≡ x % 16 % 8
-low_eight x = omega arith
-
-low-four : (x : ℕ) → x % 4 ≡ x % 16 % 4
-low-four x = omega arith
-
-module _ {x y u v : ℕ} (e : u ≡ x) (f : v ≡ y) where
-  pub moved-alpha : Halves true x → Halves true y → PairMoved true x y ((u + v) % 8 + 16 * ((u + v) / 16 % 8))
-  moved-alpha h l =
-      rw (e, f)
-      (record {
-        first = low_half ((x + y) % 8) ((x + y) / 16 % 8) (omega arith) ∙ low_eight (x + y) ∙ ap (λ (n : ℕ). n % 8)
-            (low_sum x y h.first l.first);
-        second = high_half ((x + y) % 8) ((x + y) / 16 % 8) (omega arith) ∙ ap (λ (n : ℕ). n % 8) (high_sum x y h.first l.first);
-      })
-
-  pub moved-color : Halves false x → Halves false y → PairMoved false x y ((u + v) % 4 + 16 * ((u + v) / 16 % 4))
-  moved-color h l =
-      let p : x % 16 ≤ 7 = omega (arith, h.first) in
-      let q : y % 16 ≤ 7 = omega (arith, l.first) in
-      rw (e, f)
-      (record {
-        first = low_half ((x + y) % 4) ((x + y) / 16 % 4) (omega arith) ∙ low-four (x + y) ∙ ap (λ (n : ℕ). n % 4) (low_sum x y p q);
-        second = high_half ((x + y) % 4) ((x + y) / 16 % 4) (omega arith) ∙ ap (λ (n : ℕ). n % 4) (high_sum x y p q);
-      })
 
 module _ {alpha : Bool} (ps : List ℕ) (j : ℕ) {delta r : ℕ} (m : PairMoved alpha (get_or ps j 0) delta r) where
   pub values_moved : {s : ℕ} → PairDelta alpha s delta → values_of (set ps j r) ≡ pair_moved (top_of alpha) j s (values_of ps)

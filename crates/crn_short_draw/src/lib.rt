@@ -7,7 +7,7 @@ ghost use Rattle.crn_symbol_codec.specs.Cursors.{place, Holds};
 ghost use Rattle.crn_symbol_codec.specs.Decoders.{Usable, Decodes};
 ghost use Rattle.crn_symbol_codec.specs.Taking.{Takes};
 
-use crn_symbol_codec::{Cursor, Taken, refill};
+use crn_symbol_codec::{Cursor, Decoder, Taken, refill};
 
 mod filling;
 
@@ -31,15 +31,14 @@ pub fn ready(seg: &[u8], c: Cursor) -> Cursor
 
 // A symbol, as `crn_symbol_codec::draw` answers. It is looked up where the cursor is ready and the code short enough; else the cursor is
 // handed on part by part, so that a loop need not keep it in memory.
-pub fn draw(lookup: &[u32], sorted: &[u16], seg: &[u8], c: Cursor) -> Taken
+pub fn draw(code: Decoder, seg: &[u8], c: Cursor) -> Taken
     requires holds { Holds seg.now c }
-    requires usable { Usable lookup.now sorted.now }
-    ensures { (ls : List ℕ) → Decodes ls lookup.now sorted.now → Takes seg.now (a_symbol ls) c result }
+    requires usable { Usable code.lookup.now code.sorted.now }
+    ensures { (ls : List ℕ) → Decodes ls code.entry.lookup.now code.entry.sorted.now → Takes seg.now (a_symbol ls) c result }
 {
     if c.have < 16 {
         return crn_symbol_codec::draw(
-            lookup,
-            sorted,
+            code,
             seg,
             Cursor {
                 bits: c.bits,
@@ -48,14 +47,13 @@ pub fn draw(lookup: &[u32], sorted: &[u16], seg: &[u8], c: Cursor) -> Taken
             },
         );
     }
-    let width = lookup[0] as u64;
+    let width = code.lookup[0] as u64;
     let i = (c.bits >> (64 - width)) as usize;
-    let entries = &lookup[32..];
+    let entries = &code.lookup[32..];
     let e = entries[i];
     if e == 0 {
         return crn_symbol_codec::draw(
-            lookup,
-            sorted,
+            code,
             seg,
             Cursor {
                 bits: c.bits,
@@ -67,14 +65,14 @@ pub fn draw(lookup: &[u32], sorted: &[u16], seg: &[u8], c: Cursor) -> Taken
     let l = (e % 64) as u64;
     let bits = c.bits << l;
     let have = c.have - l;
-    Taken::Value(
+    Ok((
         e / 64,
         Cursor {
             bits,
             have,
             next: c.next,
         },
-    )
+    ))
 }
 
 // A number of n bits, as `crn_symbol_codec::number` answers.
@@ -97,12 +95,12 @@ pub fn number(seg: &[u8], c: Cursor, n: u64) -> Taken
     let v = (c.bits >> 32) >> (32 - n);
     let bits = c.bits << n;
     let have = c.have - n;
-    Taken::Value(
+    Ok((
         v as u32,
         Cursor {
             bits,
             have,
             next: c.next,
         },
-    )
+    ))
 }

@@ -8,7 +8,9 @@ use native.Mathlib.Nat.{suc-mul, mul-le-mul}
 use lib.Dec.{ltb, lit≤}
 use Rattle.crn_format.specs.Choice.{pick}
 use Rattle.crn_format.specs.Reading.{Step, got, refused, Spending, start, run, from_bits, budgeted}
-use Rattle.crn_format.specs.Header.{Kind, DXT1, DXT5, DXT5A, DXN, unknown, kind_of, within_limits}
+use Rattle.crn_format.specs.declared.Kind.{Kind}
+use Rattle.crn_format.specs.declared.Kind.TheVariants.{DXT1, DXT5, DXT5A, DXN, Unknown}
+use Rattle.crn_format.specs.Header.{kind_of, within_limits}
 use Rattle.crn_format.specs.Level.{Chunk}
 use Rattle.crn_format.specs.Grid.{Shade, is_cutout, row_cutouts, face_cutouts, cutouts, chunk_count, block_at}
 use Rattle.crn_format.specs.Opening.{Palettes}
@@ -56,7 +58,7 @@ module _ (g : Grid) (faces : g.faces ≤ 6) (columns : g.columns ≤ 1024) (rows
   count_few DXT5 block = omega arith
   count_few DXT5A block = omega arith
   count_few DXN block = omega arith
-  count_few unknown block = omega arith
+  count_few Unknown block = omega arith
 
   ended-few : (k : Kind) (ps : List Shade) (budget : ℕ) (dst : List ℕ) (x : Step Spending (List Chunk)) (s c : ℕ) (e : List ℕ)
       → ended k g ps budget dst x ≡ unpacked s c e → c ≤ most_cutouts
@@ -90,7 +92,7 @@ planes-few DXT1 = lit≤ tt
 planes-few DXT5 = lit≤ tt
 planes-few DXT5A = lit≤ tt
 planes-few DXN = lit≤ tt
-planes-few unknown = lit≤ tt
+planes-few Unknown = lit≤ tt
 
 half-few : (n : ℕ) → n ≤ 1024 → (n + 1) / 2 ≤ 512
 half-few n h = omega arith

@@ -2,10 +2,11 @@
 #![tactic(auto)]
 
 ghost use Rattle.std.specs.Prelude.{◌≡◌, ◌/◌};
+ghost use Rattle.crn_format.specs.Refusals.{number_of};
 ghost use Rattle.crn_sizes.specs.Sizes.{close, sizes_of, no_sizes, level_sizes};
 
 use crn_bounds::within_limits;
-use crn_format::Header;
+use crn_format::{Header, Refusal};
 use crn_formats::block_bytes;
 use crn_grid::{columns_of, rows_of};
 
@@ -24,11 +25,11 @@ pub struct LevelSizes {
 }
 
 // What a refusal gives for sizes.
-fn no_sizes(refusal: u32) -> LevelSizes
-    ensures { result ≡ no_sizes refusal }
+fn no_sizes(refusal: Refusal) -> LevelSizes
+    ensures { result ≡ no_sizes (number_of refusal) }
 {
     LevelSizes {
-        refusal: refusal,
+        refusal: refusal.into(),
         columns: 0,
         rows: 0,
         block_bytes: 0,
@@ -43,18 +44,18 @@ fn no_sizes(refusal: u32) -> LevelSizes
 fn sizes_by(faces: u8, columns: u16, rows: u16, block_bytes: u8) -> LevelSizes
     ensures { result ≡ sizes_of (block_bytes / 8) (close faces columns rows block_bytes) }
 {
-    let pitch = columns as usize * block_bytes as usize;
-    let distance = rows as usize * pitch;
-    let chunks = faces as u64 * (((rows as u64 + 1) / 2) * ((columns as u64 + 1) / 2));
+    let pitch = usize::from(columns) * usize::from(block_bytes);
+    let distance = usize::from(rows) * pitch;
+    let chunks = u64::from(faces) * (u64::from(rows).div_ceil(2) * u64::from(columns).div_ceil(2));
     LevelSizes {
         refusal: 0,
-        columns: columns as usize,
-        rows: rows as usize,
-        block_bytes: block_bytes as usize,
-        pitch: pitch,
-        distance: distance,
-        bytes: faces as usize * distance,
-        symbols: 8 * (chunks * (block_bytes as u64 / 8)) + (chunks + 2) / 3,
+        columns: usize::from(columns),
+        rows: usize::from(rows),
+        block_bytes: usize::from(block_bytes),
+        pitch,
+        distance,
+        bytes: usize::from(faces) * distance,
+        symbols: 8 * (chunks * (u64::from(block_bytes) / 8)) + chunks.div_ceil(3),
     }
 }
 
@@ -63,10 +64,10 @@ pub fn level_sizes(header: Header, level: u32) -> LevelSizes
     ensures { result ≡ level_sizes header level }
 {
     if !within_limits(header) {
-        return no_sizes(2);
+        return no_sizes(Refusal::BeyondLimits);
     }
     if header.levels <= level {
-        return no_sizes(10);
+        return no_sizes(Refusal::NoLevel);
     }
     let columns = columns_of(header, level);
     let rows = rows_of(header, level);

@@ -8,7 +8,8 @@ use borrow.Author.Tests.{le-leb, lt-leb}
 use Rattle.crn_format.specs.Bits.{bit_count, spelled}
 use Rattle.crn_format.specs.Codes.{symbol_at}
 use Rattle.crn_symbol_codec.specs.declared.Cursor.{Cursor}
-use Rattle.crn_symbol_codec.specs.declared.Taken.TheVariants.{Value, Failed}
+use Rattle.std.specs.Prelude.{Ok, Err}
+use Rattle.crn_format.specs.declared.Refusal.TheVariants.{Ended, NoSymbol}
 use Rattle.crn_symbol_codec.specs.Cursors.{place, past, Holds, Enough}
 use Rattle.crn_symbol_codec.specs.Decoders.{width_in, longest_in, counts_in, front, found_in, Usable}
 use Rattle.crn_symbol_codec.specs.Drawing.{walked, Draws}
@@ -35,13 +36,13 @@ module _ {lookup sorted seg : List ℕ} {c : Cursor} (h : Holds seg c) (enough :
     pub found-length : e % 64 ≤ 16
     found-length = omega (arith, said.2, u.most)
 
-    pub found-ended : c.have < e % 64 → Draws lookup sorted seg c (Failed 8)
+    pub found-ended : c.have < e % 64 → Draws lookup sorted seg c (Err Ended)
     found-ended l =
         let n : length seg ≤ c.next = enough (omega (arith, found-length)) in
         let k : bit_count seg < place c + e % 64 = omega (arith, h.behind) in
         record { same = sym (said.0 ∙ simp (lt-leb _ _ k)); holds = tt; near = tt }
 
-    pub found-drawn : e % 64 ≤ c.have → Draws lookup sorted seg c (Value (e / 64) (past c (e % 64)))
+    pub found-drawn : e % 64 ≤ c.have → Draws lookup sorted seg c (Ok ((e / 64), (past c (e % 64))))
     found-drawn l =
         let k : place c + e % 64 ≤ bit_count seg = omega (arith, h.behind, h.within) in
         record {
@@ -57,13 +58,13 @@ module _ {lookup sorted seg : List ℕ} {c : Cursor} (h : Holds seg c) (enough :
     passed = miss (counts_in lookup) sorted seg (place c) (longest_in lookup) (longest_in lookup) (omega arith) (front 64 c.bits) firsts
         (omega (arith, h.within, h.behind)) none
 
-    pub none-short : c.have < longest_in lookup → Draws lookup sorted seg c (Failed 8)
+    pub none-short : c.have < longest_in lookup → Draws lookup sorted seg c (Err Ended)
     none-short l =
         let n : length seg ≤ c.next = enough (omega (arith, u.most)) in
         let k : bit_count seg < place c + longest_in lookup = omega (arith, h.behind) in
         record { same = sym (passed ∙ simp (lt-leb _ _ k)); holds = tt; near = tt }
 
-    pub none_begins : longest_in lookup ≤ c.have → Draws lookup sorted seg c (Failed 7)
+    pub none_begins : longest_in lookup ≤ c.have → Draws lookup sorted seg c (Err NoSymbol)
     none_begins l =
         let k : place c + longest_in lookup ≤ bit_count seg = omega (arith, h.within, h.behind) in
         record {
@@ -88,5 +89,5 @@ module _ {lookup sorted seg : List ℕ} {c : Cursor} (h : Holds seg c) (enough :
       pub entry_length : e % 64 ≤ 16
       entry_length = found-length e found some
 
-      pub entry_found : e % 64 ≤ c.have → Draws lookup sorted seg c (Value (e / 64) (past c (e % 64)))
+      pub entry_found : e % 64 ≤ c.have → Draws lookup sorted seg c (Ok ((e / 64), (past c (e % 64))))
       entry_found l = found-drawn e found some l

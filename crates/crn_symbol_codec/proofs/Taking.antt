@@ -11,8 +11,9 @@ use Rattle.crn_format.specs.Codes.{Drawn}
 use Rattle.crn_format.specs.Reading.{Want, a_symbol, a_number, got, spot, of_drawn, served}
 use Rattle.crn_format.proofs.Drawing.{field_lt}
 use Rattle.crn_symbol_codec.specs.declared.Cursor.{Cursor}
-use Rattle.crn_symbol_codec.specs.declared.Taken.{Taken}
-use Rattle.crn_symbol_codec.specs.declared.Taken.TheVariants.{Value, Failed}
+use Rattle.crn_symbol_codec.specs.Taking.{Taken}
+use Rattle.std.specs.Prelude.{Ok, Err}
+use Rattle.crn_format.specs.declared.Refusal.TheVariants.{Ended}
 use Rattle.crn_symbol_codec.specs.Cursors.{place, past, Holds, Enough}
 use Rattle.crn_symbol_codec.specs.Taking.{took, Takes}
 use Rattle.crn_symbol_codec.specs.Decoders.{Decodes}
@@ -32,7 +33,7 @@ module _ {seg : List ℕ} {c : Cursor} {n : ℕ} (h : Holds seg c) (enough : Eno
   pub number_is : c.bits / 2 ^ 32 / 2 ^ (32 - n) ≡ spelled seg (place c) n
   number_is = window_twice 32 (32 - n) n (omega arith) h enough few
 
-  pub takes-number : n ≤ c.have → Takes seg (a_number n) c (Value (c.bits / 2 ^ 32 / 2 ^ (32 - n)) (past c n))
+  pub takes-number : n ≤ c.have → Takes seg (a_number n) c (Ok ((c.bits / 2 ^ 32 / 2 ^ (32 - n)), (past c n)))
   unfolding served
   takes-number l =
       let k : place c + n ≤ bit_count seg = omega (arith, h.behind, h.within) in
@@ -41,7 +42,7 @@ module _ {seg : List ℕ} {c : Cursor} {n : ℕ} (h : Holds seg c) (enough : Eno
         holds = after-drop h l;
       }
 
-  pub number-ended : c.have < n → Takes seg (a_number n) c (Failed 8)
+  pub number-ended : c.have < n → Takes seg (a_number n) c (Err Ended)
   unfolding served
   number-ended l =
       let z = enough (omega arith) in
@@ -51,8 +52,8 @@ module _ {seg : List ℕ} {c : Cursor} {n : ℕ} (h : Holds seg c) (enough : Eno
 -- ---- a symbol
 took-drew : (p b : ℕ) (r : Taken) → took p b r ≡ of_drawn (drew r) (spot p b)
 unfolding of_drawn
-took-drew p b (Value v d) = refl
-took-drew p b (Failed n) = refl
+took-drew p b (Ok (v, d)) = refl
+took-drew p b (Err n) = refl
 
 pub takes-symbol : {ls lookup sorted seg : List ℕ} {c : Cursor} {r : Taken} → Draws lookup sorted seg c r → Decodes ls lookup sorted → Takes
     seg (a_symbol ls) c r

@@ -5,13 +5,14 @@ use Rattle.crn_symbol_codec.specs.Cursors.{place}
 use Rattle.crn_symbol_codec.specs.Taking.{On, Near}
 use Rattle.crn_symbol_codec.specs.Decoders.{longest_in, counts_in, walk}
 use Rattle.crn_symbol_codec.specs.declared.Cursor.{Cursor}
-use Rattle.crn_symbol_codec.specs.declared.Taken.{Taken}
-use Rattle.crn_symbol_codec.specs.declared.Taken.TheVariants.{Value, Failed}
+use Rattle.crn_symbol_codec.specs.Taking.{Taken}
+use Rattle.std.specs.Prelude.{Ok, Err}
+use Rattle.crn_format.specs.Refusals.{number_of}
 
 -- an answer, as crn_format says what a draw finds
 abbrev pub drew : Taken → Drawn
-drew (Value v d) = symbol_at v (place d)
-drew (Failed n) = failed n
+drew (Ok (v, d)) = symbol_at v (place d)
+drew (Err n) = failed (number_of n)
 
 -- what a draw by the table finds at p
 abbrev pub walked : List ℕ → List ℕ → List ℕ → ℕ → Drawn

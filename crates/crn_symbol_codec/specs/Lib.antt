@@ -2,3 +2,4 @@ pub mod Cursors
 pub mod Taking
 pub mod Decoders
 pub mod Drawing
+pub mod Telling

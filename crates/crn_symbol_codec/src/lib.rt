@@ -5,10 +5,11 @@ ghost use Rattle.std.specs.Prelude.{◌≡◌, List, ℕ, ◌+◌, ◌*◌, ◌<
 ghost use Rattle.crn_format.specs.Limits.{too_long};
 ghost use Rattle.crn_format.specs.Reading.{a_symbol, a_number};
 ghost use Rattle.crn_symbol_codec.specs.Cursors.{place as place_of, past, Holds, Enough, Filled};
-ghost use Rattle.crn_symbol_codec.specs.Taking.{refusal_of, Takes, Near};
+ghost use Rattle.crn_symbol_codec.specs.Taking.{Takes, Near};
 ghost use Rattle.crn_symbol_codec.specs.Decoders.{Usable, Decodes, short_in, found_in};
 
 use crn_bytes::{eight_bytes, last_bytes};
+use crn_format::Refusal;
 
 // The next `have` bits, at the top of `bits`, and the byte after them. Below them stand bits of the segment or 0.
 #[derive(Clone, Copy)]
@@ -18,22 +19,15 @@ pub struct Cursor {
     pub next: usize,
 }
 
-// A symbol or a number, with the cursor after it; or the refusal, 7 or 8.
+// The decoder table of a code: its lookup, and its sorted symbols.
 #[derive(Clone, Copy)]
-pub enum Taken {
-    Value(u32, Cursor),
-    Failed(u32),
+pub struct Decoder<'a> {
+    pub lookup: &'a [u32],
+    pub sorted: &'a [u16],
 }
 
-// The refusal of an answer, for the `else` of a `let`; 0 where there is a value.
-pub fn refusal(t: Taken) -> u32
-    ensures { result ≡ refusal_of t }
-{
-    match t {
-        Taken::Value(_, _) => 0,
-        Taken::Failed(n) => n,
-    }
-}
+// A symbol or a number, with the cursor after it; or the refusal, 7 or 8.
+pub type Taken = Result<(u32, Cursor), Refusal>;
 
 // At the segment's first bit.
 pub fn start(seg: &[u8]) -> Cursor
@@ -116,10 +110,10 @@ fn number_ready(seg: &[u8], c: Cursor, n: u64) -> Taken
     ensures { Takes seg.now (a_number n) c result }
 {
     if c.have < n {
-        return Taken::Failed(8);
+        return Err(Refusal::Ended);
     }
     let v = (c.bits >> 32) >> (32 - n);
-    Taken::Value(v as u32, skip(c, n))
+    Ok((v as u32, skip(c, n)))
 }
 
 // A number of n bits. Bits that are missing are never made up: refusal 8.
@@ -145,22 +139,22 @@ fn symbol(sorted: &[u16], i: usize) -> u32
 }
 
 // The code that the bits begin with, by the lengths that are not looked up.
-fn long_entry(lookup: &[u32], sorted: &[u16], bits: u64) -> u32
-    requires usable { Usable lookup.now sorted.now }
-    requires not_short { short_in lookup.now sorted.now bits ≡ 0 }
-    ensures { result ≡ found_in lookup.now sorted.now bits }
+fn long_entry(code: Decoder, bits: u64) -> u32
+    requires usable { Usable code.lookup.now code.sorted.now }
+    requires not_short { short_in code.lookup.now code.sorted.now bits ≡ 0 }
+    ensures { result ≡ found_in code.entry.lookup.now code.entry.sorted.now bits }
 {
-    let longest = lookup[1] as u64;
+    let longest = code.lookup[1] as u64;
     let window = (bits >> 48) as u32;
-    let mut k = lookup[0] as u64;
-    let mut first = lookup[2];
-    let mut offset = lookup[3];
+    let mut k = code.lookup[0] as u64;
+    let mut first = code.lookup[2];
+    let mut offset = code.lookup[3];
     while k < longest {
         k += 1;
         let v = window >> (16 - k);
-        let n = lookup[8 + k as usize];
+        let n = code.lookup[8 + k as usize];
         if v < first + n {
-            return 64 * symbol(sorted, (offset + (v - first)) as usize) + k as u32;
+            return 64 * symbol(code.sorted, (offset + (v - first)) as usize) + k as u32;
         }
         first = 2 * (first + n);
         offset += n;
@@ -171,50 +165,50 @@ fn long_entry(lookup: &[u32], sorted: &[u16], bits: u64) -> u32
 // The code that the bits begin with: 64 times its symbol plus its length, or 0 where they begin with none. Its first bits are looked up;
 // a plain number comes back, so that a loop which draws keeps it in a register. The entries are a slice of their own, whose address such a
 // loop keeps too.
-pub fn entry(lookup: &[u32], sorted: &[u16], bits: u64) -> u32
-    requires { Usable lookup.now sorted.now }
-    ensures { result ≡ found_in lookup.now sorted.now bits }
+pub fn entry(code: Decoder, bits: u64) -> u32
+    requires { Usable code.lookup.now code.sorted.now }
+    ensures { result ≡ found_in code.entry.lookup.now code.entry.sorted.now bits }
 {
-    let width = lookup[0] as u64;
+    let width = code.lookup[0] as u64;
     let i = (bits >> (64 - width)) as usize;
-    let entries = &lookup[32..];
+    let entries = &code.lookup[32..];
     let e = entries[i];
     if e == 0 {
-        return long_entry(lookup, sorted, bits);
+        return long_entry(code, bits);
     }
     e
 }
 
 // A symbol, from a cursor that has 16 bits or all that are left. Where no code begins them, or one that is longer than what is left,
 // the segment may have ended within it.
-pub fn draw_ready(lookup: &[u32], sorted: &[u16], seg: &[u8], c: Cursor) -> Taken
+pub fn draw_ready(code: Decoder, seg: &[u8], c: Cursor) -> Taken
     requires holds { Holds seg.now c }
     requires enough { Enough seg.now c 16 }
-    requires usable { Usable lookup.now sorted.now }
-    ensures { ((ls : List ℕ) → Decodes ls lookup.now sorted.now → Takes seg.now (a_symbol ls) c result) × Near c result }
+    requires usable { Usable code.lookup.now code.sorted.now }
+    ensures { ((ls : List ℕ) → Decodes ls code.entry.lookup.now code.entry.sorted.now → Takes seg.now (a_symbol ls) c result) × Near c result }
 {
-    let e = entry(lookup, sorted, c.bits);
+    let e = entry(code, c.bits);
     if e == 0 {
-        if c.have < lookup[1] as u64 {
-            return Taken::Failed(8);
+        if c.have < code.lookup[1] as u64 {
+            return Err(Refusal::Ended);
         }
-        return Taken::Failed(7);
+        return Err(Refusal::NoSymbol);
     }
     let l = (e % 64) as u64;
     if c.have < l {
-        return Taken::Failed(8);
+        return Err(Refusal::Ended);
     }
-    Taken::Value(e / 64, skip(c, l))
+    Ok((e / 64, skip(c, l)))
 }
 
 // A symbol. Bits that are missing are never made up: 8 where the segment ends first, 7 where its bits begin no code.
-pub fn draw(lookup: &[u32], sorted: &[u16], seg: &[u8], c: Cursor) -> Taken
+pub fn draw(code: Decoder, seg: &[u8], c: Cursor) -> Taken
     requires holds { Holds seg.now c }
-    requires usable { Usable lookup.now sorted.now }
-    ensures { (ls : List ℕ) → Decodes ls lookup.now sorted.now → Takes seg.now (a_symbol ls) c result }
+    requires usable { Usable code.lookup.now code.sorted.now }
+    ensures { (ls : List ℕ) → Decodes ls code.entry.lookup.now code.entry.sorted.now → Takes seg.now (a_symbol ls) c result }
 {
     if c.have < 16 {
-        return draw_ready(lookup, sorted, seg, refill(seg, c));
+        return draw_ready(code, seg, refill(seg, c));
     }
-    draw_ready(lookup, sorted, seg, c)
+    draw_ready(code, seg, c)
 }

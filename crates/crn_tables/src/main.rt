@@ -1,334 +1,329 @@
 // Receives code tables and draws symbols, case by case from standard input, and writes a line for each operation. README.md has the format.
 #![tactic(auto)]
 
-ghost use Rattle.std.specs.Prelude.{◌≡◌, ◌<◌, ◌≤◌, IfOk, length};
+ghost use Rattle.std.specs.Prelude.{◌≡◌, ◌<◌, ◌≤◌, true, length};
 ghost use Rattle.crn_format.specs.Limits.{max_symbols, too_long};
+ghost use Rattle.crn_format.specs.Codes.{all_fit};
 ghost use Rattle.crn_symbol_codec.specs.Cursors.{Holds};
-ghost use Rattle.crn_symbol_codec.specs.Decoders.{Decodes};
+ghost use Rattle.crn_symbol_codec.specs.Taking.{On};
+ghost use Rattle.crn_symbol_codec.specs.Decoders.{SomeCode};
 
-use crn_format::Table;
+use crn_format::{Fault, Refusal, Table};
 use crn_symbol_codec::{Cursor, Taken};
+use std::fmt;
 use std::io::{self, Read};
+use std::marker::Model;
 
-// What an operation leaves: whether the case goes on, from which cursor, and with which table.
+// So many bytes of the input are read at most.
+const MOST: u64 = 65536;
+
+// ---- what the operations are, and what they come to
+
+// An operation of a case, as its five bytes say it: the kind and the argument.
 #[derive(Clone, Copy)]
-struct State {
-    going: bool,
-    cursor: Cursor,
-    table: Table,
+enum Operation {
+    Number { bits: u32 },
+    Table,
+    Draws { count: u32 },
 }
 
-// Symbols drawn: how many, their hash, the cursor after them, and the refusal that ended them, or 0.
+impl From<&[u8]> for Operation {
+    fn from(bytes: &[u8]) -> Operation {
+        let argument = crn_utils::little32(bytes, 1);
+        match crn_utils::byte(bytes, 0) {
+            1 => Operation::Number { bits: argument },
+            2 => Operation::Table,
+            _ => Operation::Draws { count: argument },
+        }
+    }
+}
+
+// Symbols drawn: the place after them, how many, and their hash.
 #[derive(Clone, Copy)]
 struct Drawn {
-    refusal: u32,
-    count: u64,
+    place: usize,
+    count: u32,
     hash: u64,
-    cursor: Cursor,
 }
 
-// ---- lines
-
-fn text(rt: &impl Print, t: &[u8]) -> io::Result<()> {
-    rt.write_all(t)
+// What an operation came to.
+#[derive(Clone, Copy)]
+enum Done {
+    Number { place: usize, value: u32 },
+    Table { place: usize, count: u32, hash: u64 },
+    Draws(Drawn),
 }
 
-// A number after a space.
-fn part(rt: &impl Print, n: u64) -> io::Result<()> {
-    print!(rt; " {n}")
+// Why an operation was refused, which ends its case.
+#[derive(Clone, Copy)]
+enum Refused {
+    TooManyBits,
+    Number { refusal: Refusal, place: usize },
+    Table(Fault),
+    Draws { refusal: Refusal, drawn: Drawn },
 }
 
-fn last_hash(rt: &impl Print, h: u64) -> io::Result<()> {
-    println!(rt; " {h:016x}")
-}
-
-fn hash_of(bytes: &[u8]) -> u64 {
-    let mut h = fnv::OFFSET;
-    let mut i: usize = 0;
-    while i < bytes.len() {
-        h = fnv::step(h, crn_utils::byte(bytes, i));
-        i += 1;
+impl fmt::Display for Drawn {
+    fn fmt<W: fmt::Write>(&self, f: &mut fmt::Formatter<W>) -> fmt::Result {
+        let Drawn { place, count, hash } = *self;
+        write!(f, "{place} {count} {hash:016x}")
     }
-    h
+}
+
+impl fmt::Display for Done {
+    fn fmt<W: fmt::Write>(&self, f: &mut fmt::Formatter<W>) -> fmt::Result {
+        match *self {
+            Done::Number { place, value } => write!(f, "number 0 {place} {value}"),
+            Done::Table { place, count, hash } => write!(f, "table 0 {place} {count} {hash:016x}"),
+            Done::Draws(drawn) => write!(f, "draws 0 {drawn}"),
+        }
+    }
+}
+
+impl fmt::Display for Refused {
+    fn fmt<W: fmt::Write>(&self, f: &mut fmt::Formatter<W>) -> fmt::Result {
+        match *self {
+            Refused::TooManyBits => write!(f, "number of more than 16 bits"),
+            Refused::Number { refusal, place } => write!(
+                f,
+                "number {} {place}",
+                u32::from(refusal)
+            ),
+            Refused::Table(Fault { refusal, at }) => write!(f, "table {} {at}", u32::from(refusal)),
+            Refused::Draws { refusal, drawn } => write!(f, "draws {} {drawn}", u32::from(refusal)),
+        }
+    }
+}
+
+// The FNV-1a hash `hash` with these bytes more.
+fn hashed(hash: u64, bytes: &[u8]) -> u64 {
+    bytes
+        .iter()
+        .fold(hash, |h, byte| fnv::step(h, u32::from(*byte)))
 }
 
 // ---- the operations
 
-fn number(rt: &impl Print, seg: &[u8], s: State, n: u32) -> io::Result<State>
-    requires holds { Holds seg.now s.cursor }
-    requires seg_long { length seg.now < too_long }
-    ensures { IfOk result (λ after. Holds seg.now after.cursor) }
-{
-    let c = s.cursor;
-    let t = s.table;
-    if 16 < n {
-        text(rt, b"number of more than 16 bits\n")?;
-        return Ok(State {
-            going: false,
-            cursor: c,
-            table: t,
-        });
-    }
-    match crn_symbol_codec::number(seg, c, n as u64) {
-        Taken::Value(v, d) => {
-            text(rt, b"number 0")?;
-            part(rt, crn_symbol_codec::place(seg, d) as u64)?;
-            part(rt, v as u64)?;
-            text(rt, b"\n")?;
-            Ok(State {
-                going: true,
-                cursor: d,
-                table: t,
-            })
-        }
-        Taken::Failed(k) => {
-            text(rt, b"number")?;
-            part(rt, k as u64)?;
-            part(rt, crn_symbol_codec::place(seg, c) as u64)?;
-            text(rt, b"\n")?;
-            Ok(State {
-                going: false,
-                cursor: c,
-                table: t,
-            })
+// A case under way: the place in its segment, and the last table received. No contract asks what they are, only that they fit each other.
+#[derive(Drop)]
+struct Progress<'a> {
+    segment: &'a [u8],
+    cursor: Cursor,
+    table: Table,
+}
+
+impl<'a> Model for Progress<'a> {
+    ghost Value = { Unit {0} };
+
+    ghost view = { λ _. tt };
+
+    ghost invariant = { λ p. (Holds p.segment.now p.cursor) × (length p.segment.now < too_long) × (p.table.count ≤ max_symbols) };
+}
+
+impl<'a> Progress<'a> {
+    // At the segment's first bit, with a table of no symbols.
+    fn new(segment: &'a [u8]) -> Progress<'a>
+        requires { length segment.now < too_long }
+    {
+        Progress {
+            segment,
+            cursor: crn_symbol_codec::start(segment),
+            table: Table {
+                count: 0,
+                lengths: [0; 8192],
+            },
         }
     }
-}
 
-fn table(rt: &impl Print, seg: &[u8], c: Cursor) -> io::Result<State>
-    requires holds { Holds seg.now c }
-    requires seg_long { length seg.now < too_long }
-    ensures { IfOk result (λ after. Holds seg.now after.cursor) }
-{
-    let mut t = Table {
-        count: 0,
-        lengths: [0; 8192],
-    };
-    let r = crn_code_tables::receive(seg, c, &mut t.lengths);
-    let k = r.refusal;
-    let at = r.at;
-    let d = r.cursor;
-    t.count = r.count;
-    text(rt, b"table")?;
-    part(rt, k as u64)?;
-    part(rt, at as u64)?;
-    if k != 0 {
-        text(rt, b"\n")?;
-        return Ok(State {
-            going: false,
-            cursor: c,
-            table: t,
-        });
+    // The place of the next bit.
+    fn place(&self) -> usize {
+        crn_symbol_codec::place(self.segment, self.cursor)
     }
-    part(rt, t.count as u64)?;
-    last_hash(rt, hash_of_lengths(t))?;
-    Ok(State {
-        going: true,
-        cursor: d,
-        table: t,
-    })
-}
 
-// A table's lengths, in an array that is known to have them all.
-fn lengths_of(t: Table) -> [u8; 8192]
-    ensures { length result ≡ 8192 }
-{
-    let from = t.lengths;
-    let mut out = [0u8; 8192];
-    let mut i: usize = 0;
-    while i < 8192 {
-        out[i] = from[i];
-        i += 1;
+    // After a refusal nothing has to be known of the case: it has ended.
+    fn operate(&mut self, operation: Operation) -> Result<Done, Refused> {
+        match operation {
+            Operation::Number { bits } => self.number(bits),
+            Operation::Table => self.receive(),
+            Operation::Draws { count } => self.draw(count),
+        }
     }
-    out
-}
 
-fn hash_of_lengths(t: Table) -> u64 {
-    let n = t.count as usize;
-    if 8192 < n {
-        return 0;
-    }
-    let lengths = lengths_of(t);
-    hash_of(&lengths[..n])
-}
-
-// The lengths are there for the contract alone.
-fn many(lengths: &[u8], lookup: &[u32], sorted: &[u16], seg: &[u8], from: Cursor, n: u32) -> Drawn
-    requires holds { Holds seg.now from }
-    requires decodes { Decodes lengths.now lookup.now sorted.now }
-    ensures { Holds seg.now result.cursor }
-{
-    let mut c = from;
-    let mut h = fnv::OFFSET;
-    let mut k: u32 = 0;
-    while k < n {
-        let t = crn_symbol_codec::draw(lookup, sorted, seg, c);
-        match t {
-            Taken::Value(s, d) => {
-                h = fnv::step(fnv::step(h, s % 256), s / 256 % 256);
-                c = d;
+    // A number of so many bits.
+    fn number(&mut self, bits: u32) -> Result<Done, Refused> {
+        if 16 < bits {
+            return Err(Refused::TooManyBits);
+        }
+        match crn_symbol_codec::number(self.segment, self.cursor, u64::from(bits)) {
+            Ok((value, after)) => {
+                self.cursor = after;
+                let place = self.place();
+                Ok(Done::Number { place, value })
             }
-            Taken::Failed(refusal) => {
-                return Drawn {
-                    refusal,
-                    count: k as u64,
-                    hash: h,
-                    cursor: c,
-                };
+            Err(refusal) => {
+                let place = self.place();
+                Err(Refused::Number { refusal, place })
             }
         }
-        k += 1;
     }
-    Drawn {
-        refusal: 0,
-        count: k as u64,
-        hash: h,
-        cursor: c,
+
+    // A code table, whose lengths the next draws go by.
+    fn receive(&mut self) -> Result<Done, Refused> {
+        let mut lengths = [0u8; 8192];
+        let (count, after) = match crn_code_tables::receive(
+            self.segment,
+            self.cursor,
+            &mut lengths,
+        ) {
+            Ok(received) => received,
+            Err(fault) => return Err(Refused::Table(fault)),
+        };
+        self.cursor = after;
+        self.table = Table { count, lengths };
+        let place = self.place();
+        let hash = hashed(fnv::OFFSET, self.lengths());
+        Ok(Done::Table { place, count, hash })
+    }
+
+    // The lengths of the last table's symbols.
+    fn lengths(&self) -> &[u8]
+        ensures { length result.now ≤ max_symbols }
+    {
+        &self.table.lengths[..self.table.count as usize]
+    }
+
+    // So many symbols, drawn by the last table's code; the line hashes two bytes of each.
+    fn draw(&mut self, count: u32) -> Result<Done, Refused> {
+        let decoder = Decoder::new(self.lengths());
+        let mut hash = fnv::OFFSET;
+        for done in 0..count {
+            match decoder.draw(self.segment, self.cursor) {
+                Ok((symbol, after)) => {
+                    self.cursor = after;
+                    hash = hashed(hash, &symbol.to_le_bytes()[..2]);
+                }
+                Err(refusal) => {
+                    let place = self.place();
+                    let drawn = Drawn {
+                        place,
+                        count: done,
+                        hash,
+                    };
+                    return Err(Refused::Draws { refusal, drawn });
+                }
+            }
+        }
+        let place = self.place();
+        Ok(Done::Draws(Drawn { place, count, hash }))
     }
 }
 
-// From the code of these lengths, or from no code at all.
-fn from_code(lengths: &[u8], seg: &[u8], c: Cursor, n: u32) -> Drawn
-    requires holds { Holds seg.now c }
-    requires lengths_long { length lengths.now ≤ max_symbols }
-    ensures { Holds seg.now result.cursor }
+// The decoder tables of a code, by which symbols are drawn.
+#[derive(Drop)]
+struct Decoder {
+    lookup: [u32; 8224],
+    sorted: [u16; 8192],
+}
+
+impl Model for Decoder {
+    ghost Value = { Unit {0} };
+
+    ghost view = { λ _. tt };
+
+    ghost invariant = { λ d. SomeCode d.lookup d.sorted };
+}
+
+impl Decoder {
+    // From the code of these lengths, or from no code at all.
+    fn new(lengths: &[u8]) -> Decoder
+        requires { length lengths.now ≤ max_symbols }
+    {
+        let mut lookup = [0; 8224];
+        let mut sorted = [0; 8192];
+        let code = code_or_none(lengths);
+        crn_static_huffman_data_model::build(code, 13, &mut lookup, &mut sorted);
+        Decoder { lookup, sorted }
+    }
+
+    // A symbol, or its refusal.
+    fn draw(&self, segment: &[u8], cursor: Cursor) -> Taken
+        requires { Holds segment.now cursor }
+        ensures { On segment.now result }
+    {
+        let code = crn_symbol_codec::Decoder {
+            lookup: &self.lookup,
+            sorted: &self.sorted,
+        };
+        crn_symbol_codec::draw(code, segment, cursor)
+    }
+}
+
+// These lengths where they make a code, or else none.
+#[tactic(auto, unfolding(crn_format::specs::Codes::all_fit))]
+fn code_or_none(lengths: &[u8]) -> &[u8]
+    requires { length lengths.now ≤ max_symbols }
+    ensures long { length result.now ≤ max_symbols }
+    ensures fits { all_fit result.now (length result.now) ≡ true }
 {
-    let mut lookup = [0u32; 8224];
-    let mut sorted = [0u16; 8192];
     if crn_static_huffman_data_model::is_code(lengths) {
-        crn_static_huffman_data_model::build(lengths, 13, &mut lookup, &mut sorted);
-        return many(lengths, &lookup, &sorted, seg, c, n);
+        lengths
+    } else {
+        &[]
     }
-    let none = &lengths[..0];
-    crn_static_huffman_data_model::build(none, 13, &mut lookup, &mut sorted);
-    many(none, &lookup, &sorted, seg, c, n)
-}
-
-fn draws(rt: &impl Print, seg: &[u8], s: State, n: u32) -> io::Result<State>
-    requires holds { Holds seg.now s.cursor }
-    requires seg_long { length seg.now < too_long }
-    ensures { IfOk result (λ after. Holds seg.now after.cursor) }
-{
-    let c = s.cursor;
-    let t = s.table;
-    let count = t.count as usize;
-    if 8192 < count {
-        return Ok(State {
-            going: false,
-            cursor: c,
-            table: t,
-        });
-    }
-    let lengths = lengths_of(t);
-    let d = from_code(&lengths[..count], seg, c, n);
-    let next = d.cursor;
-    text(rt, b"draws")?;
-    part(rt, d.refusal as u64)?;
-    part(rt, crn_symbol_codec::place(seg, next) as u64)?;
-    part(rt, d.count)?;
-    last_hash(rt, d.hash)?;
-    Ok(State {
-        going: d.refusal == 0,
-        cursor: next,
-        table: t,
-    })
-}
-
-fn operate(rt: &impl Print, seg: &[u8], s: State, kind: u32, n: u32) -> io::Result<State>
-    requires { (Holds seg.now s.cursor) × (length seg.now < too_long) }
-    ensures { IfOk result (λ after. Holds seg.now after.cursor) }
-{
-    if kind == 1 {
-        return number(rt, seg, s, n);
-    }
-    if kind == 2 {
-        let c = s.cursor;
-        return table(rt, seg, c);
-    }
-    draws(rt, seg, s, n)
 }
 
 // ---- cases
 
-fn operations(rt: &impl Print, seg: &[u8], list: &[u8], n: u32) -> io::Result<()>
-    requires { (length seg.now < too_long) × (n < 256) }
-{
-    let mut s = State {
-        going: true,
-        cursor: crn_symbol_codec::start(seg),
-        table: Table {
-            count: 0,
-            lengths: [0; 8192],
+// A case as the input has it: its segment, and its operations, of five bytes each.
+#[derive(Clone, Copy)]
+struct Case<'a> {
+    segment: &'a [u8],
+    operations: &'a [u8],
+    ghost segment_long: { length segment.now < too_long },
+}
+
+// The case that the input begins with, and the input after it.
+fn split_case(input: &[u8]) -> Option<(Case<'_>, &[u8])> {
+    let (size, rest) = input.split_first_chunk()?;
+    let (segment, rest) = rest.split_at_checked(u32::from_le_bytes(*size) as usize)?;
+    let (count, rest) = rest.split_first()?;
+    let (operations, rest) = rest.split_at_checked(5 * usize::from(*count))?;
+    Some((
+        Case {
+            segment,
+            operations,
         },
-    };
-    for i in 0..n {
-        if !s.going {
-            return Ok(());
+        rest,
+    ))
+}
+
+// The operations in turn, until one is refused.
+fn run(rt: &impl Print, case: Case) -> io::Result<()> {
+    let mut progress = Progress::new(case.segment);
+    for bytes in case.operations.chunks_exact(5) {
+        match progress.operate(Operation::from(bytes)) {
+            Ok(done) => println!(rt; "{done}")?,
+            Err(refused) => return println!(rt; "{refused}"),
         }
-        let kind = crn_utils::byte(list, 5 * i as usize);
-        let argument = crn_utils::little32(list, 5 * i + 1);
-        s = operate(rt, seg, s, kind, argument)?;
     }
     Ok(())
 }
 
-// The case at a place; answers the place after it, or 0 where the input ends before it does.
-fn one(rt: &impl Print, input: &[u8], at: usize) -> io::Result<usize>
-    requires { (length input.now ≤ 65536) × (at ≤ 65540) }
-    ensures { IfOk result (λ next. next ≤ length input.now) }
-{
-    let end = input.len();
-    if end < at + 4 {
-        return Ok(0);
-    }
-    let size = crn_utils::little32(input, at as u32) as usize;
-    let first = at + 4;
-    if end - first <= size {
-        return Ok(0);
-    }
-    let after = first + size;
-    let n = crn_utils::byte(input, after);
-    let begin = after + 1;
-    if end - begin < 5 * n as usize {
-        return Ok(0);
-    }
-    operations(rt, &input[first..after], &input[begin..], n)?;
-    Ok(begin + 5 * n as usize)
-}
-
-fn cases(rt: &impl Print, input: &[u8]) -> io::Result<()>
-    requires { length input.now ≤ 65536 }
-{
-    let n = crn_utils::little32(input, 0);
-    let mut at: usize = 4;
-    for _ in 0..n {
-        let next = one(rt, input, at)?;
-        if next == 0 {
-            return text(rt, b"short input\n");
-        }
-        at = next;
+// The cases in turn. A number of cases that is cut off counts the bytes that it lacks as 0.
+fn cases(rt: &impl Print, input: &[u8]) -> io::Result<()> {
+    let mut rest = input.get(4..).unwrap_or(&[]);
+    for _ in 0..crn_utils::little32(input, 0) {
+        let Some((case, after)) = split_case(rest) else {
+            return println!(rt; "short input");
+        };
+        run(rt, case)?;
+        rest = after;
     }
     Ok(())
-}
-
-// Reads standard input until the buffer is full or the input ends, and answers how many bytes stand at the buffer's start.
-fn read_full(rt: &impl Input, buffer: &mut [u8]) -> io::Result<usize>
-    ensures { IfOk result (λ n. n ≤ length buffer.new) }
-{
-    let mut input = rt.reader();
-    let mut done: usize = 0;
-    while done < buffer.len() {
-        let n = input.read(&mut buffer[done..])?;
-        if n == 0 {
-            break;
-        }
-        done += n;
-    }
-    Ok(done)
 }
 
 fn main(rt: HostRuntime) -> io::Result<()> {
-    let mut buffer = [0u8; 65536];
-    let n = read_full(&rt, &mut buffer)?;
-    cases(&rt, &buffer[..n])
+    let mut input = Vec::new(rt.alloc());
+    rt.reader().take(MOST).read_to_end(&mut input)?;
+    cases(&rt, &input)
 }

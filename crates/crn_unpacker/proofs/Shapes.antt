@@ -126,15 +126,13 @@ module _ (ls : List ℕ) (ps : List Plane) where
                   (λ (x : S). got (b.0, q₁) x) ev;
             }
         inner q v is (refused x u) runs e =
-            let z : ◌≡◌ {A = Step S Running} (refused x u) (got q₁ v₁) = (unfold then in e) in let y : ◌≡◌ {A = ℕ} 0 1 = cc in absurd
-            (omega arith)
+            let z : ◌≡◌ {A = Step S Running} (refused x u) (got q₁ v₁) = (unfold then in e) in absurd (cc)
 
         outer : (y : Step S Running) → state_to src ls ps flags r w n ≡ y
             → then y (λ q v. then {B = Running} (run src (chunk ls ps (flags n) q) v) (λ b u. got b.1 u)) ≡ got q₁ v₁ → Reached n q₁ v₁
         outer (got q v) is e = inner q v is (run src (chunk ls ps (flags n) q) v) refl (unfold then in e)
         outer (refused x u) is e =
-            let z : ◌≡◌ {A = Step S Running} (refused x u) (got q₁ v₁) = (unfold then in e) in let y : ◌≡◌ {A = ℕ} 0 1 = cc in absurd
-            (omega arith)
+            let z : ◌≡◌ {A = Step S Running} (refused x u) (got q₁ v₁) = (unfold then in e) in absurd (cc)
 
     state-sized : (n : ℕ) (q : Running) (v : S) → state_to src ls ps flags r w n ≡ got q v → Sized (length ps) q
     unfolding state_to
@@ -158,5 +156,4 @@ module _ (ls : List ℕ) (ps : List Plane) where
             (chunk_good (flags k) x.at (four k) (state-sized k x.at x.place x.state)) x.place x.runs).0
         go (refused x u) is =
             let z : ◌≡◌ {A = Step S Running} (refused x u) (got q v) = sym (stays src ls ps flags r w (suc k) n h is) ∙ e in
-            let y : ◌≡◌ {A = ℕ} 0 1 = cc in
-            absurd (omega arith)
+            absurd (cc)

@@ -1,5 +1,6 @@
 -- For whoever calls `paint`: the run over all chunks is the definition's, and so are the blocks and the picture.
 use Prim.Native.Nat.{ℕ, ◌+◌, ◌*◌, ◌/◌, ◌%◌, ◌<◌}
+use Rattle.std.specs.Prelude.{Ok, Err}
 use mathlib.Core.Path.{◌≡◌, refl, sym, ap, ◌∙◌, subst}
 use mathlib.Core.Bool.{Bool, true, false}
 use mathlib.Core.List.{List, []}
@@ -22,9 +23,7 @@ use Rattle.crn_blocks.proofs.Whole.{whole}
 use Rattle.crn_chunk_blocks.specs.Blocks.{shade_of}
 use Rattle.crn_chunk_blocks.proofs.Shapes.{Shaped, block-long}
 use Rattle.crn_unpacker.specs.States.{chunks_to}
-use Rattle.crn_unpacker.specs.Going.{Given, Fit, Course, Stands, Gone, Goes, state_at, chunk_here, block_here, shades, none}
-use Rattle.crn_unpacker.specs.declared.Went.{Went}
-use Rattle.crn_unpacker.specs.declared.Went.TheVariants.{On, Stopped}
+use Rattle.crn_unpacker.specs.Going.{Went, Given, Fit, Course, Stands, Gone, Goes, state_at, chunk_here, block_here, shades, none}
 use Rattle.crn_unpacker.proofs.States.{state-none, chunks-run, chunk-at}
 use Rattle.crn_unpacker.proofs.Shapes.{Sized, chunk_shaped}
 
@@ -178,7 +177,7 @@ pub record Early (l : Given) (cs : ℕ → List ℕ) (s : Stream) (x : Stop) (d 
 
 module _ {l : Given} {s : Stream} {d e : List ℕ} {w : Went} (goes : Goes l 0 (chunk_count l.grid) none s d e w) (cs : ℕ → List ℕ)
     (coded : Coded cs l.planes l.lookup l.sorted) where
-  pub through : {r : Carried} {t : Stream} → Fit l (length d) → w ≡ On r t → Through l cs s t d e
+  pub through : {r : Carried} {t : Stream} → Fit l (length d) → w ≡ Ok (r, t) → Through l cs s t d e
   through {r} {t} fit is =
       record {
         runs = level-got l cs s gone.state;
@@ -196,7 +195,7 @@ module _ {l : Given} {s : Stream} {d e : List ℕ} {w : Went} (goes : Goes l 0 (
       sized : (f x y : ℕ) → In l.grid f x y → length (block_at l.grid (shades l) (chunks_here l h) f x y) ≡ l.grid.bytes
       sized f x y at = ap length (sym (block-at l h f x y at)) ∙ block_size l cs s fit.bytes gone.state f x y at
 
-  pub early : {x : Stop} → w ≡ Stopped x → Early l cs s x d e
+  pub early : {x : Stop} → w ≡ Err x → Early l cs s x d e
   early {x} is =
       let halted = (goes.moved (level_course l cs s) (stands-first l cs s coded)).stop x is in
       record { runs = level-refused l cs s halted.why; rest = halted.rest }

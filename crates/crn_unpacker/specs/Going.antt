@@ -1,5 +1,6 @@
 -- What the functions that go over the chunks of a level ask and give.
-use Rattle.std.specs.Prelude.{ℕ, ◌*◌, ◌/◌, ◌%◌, ◌<◌, ◌≡◌, List, length}
+use Rattle.std.specs.Prelude.{Ok, Err, ℕ, ◌*◌, ◌/◌, ◌%◌, ◌<◌, ◌≡◌, List, length}
+use Rattle.std.specs.declared.result.Result.{Result}
 use Rattle.crn_format.specs.Choice.{pick}
 use Rattle.crn_format.specs.Limits.{too_long}
 use Rattle.crn_format.specs.Reading.{Step, got, Spending}
@@ -7,7 +8,7 @@ use Rattle.crn_format.specs.Level.{Running, Chunk}
 use Rattle.crn_format.specs.Grid.{Shade, inside, block_of}
 use Rattle.crn_format.specs.Opening.{Palettes}
 use Rattle.crn_format.specs.declared.Grid.{Grid}
-use Rattle.crn_formats.specs.Lent.{lent_of}
+use Rattle.crn_formats.specs.Lent.{lent_of, lent}
 use Rattle.crn_chunks.specs.Meaning.{source, spending, stopped, row, planes, Coded, Served, running_of, Onward}
 use Rattle.crn_chunks.specs.declared.Planes.{Planes}
 use Rattle.crn_chunks.specs.declared.Carried.{Carried}
@@ -16,8 +17,11 @@ use Rattle.crn_chunks.specs.declared.Stop.{Stop}
 use Rattle.crn_blocks.specs.Sheet.{Room, Painted, Outside}
 use Rattle.crn_chunk_blocks.specs.Blocks.{shade_of, Reaches}
 use Rattle.crn_unpacker.specs.States.{state_to, chunk_to}
-use Rattle.crn_unpacker.specs.declared.Went.{Went}
-use Rattle.crn_unpacker.specs.declared.Went.TheVariants.{On, Stopped}
+use Rattle.crn_unpacker.specs.declared.Level.{Level}
+
+-- how going over chunks ended: what is carried on, with the stream; or the refusal
+abbrev pub Went : Type 0
+Went = Result (Carried × Stream) Stop
 
 -- what a level is unpacked from
 pub record Given : Type 0 where
@@ -37,6 +41,18 @@ given lookup sorted seg ends sels alpha_ends alpha_sels ps g =
       palettes = lent_of ends sels alpha_ends alpha_sels;
       planes = ps;
       grid = g;
+    }
+
+-- what a struct lends for it
+abbrev pub given_in : Level → Given
+given_in l =
+    record {
+      lookup = l.supply.lookup.now;
+      sorted = l.supply.sorted.now;
+      seg = l.supply.seg.now;
+      palettes = lent l.palettes;
+      planes = l.supply.planes;
+      grid = l.grid;
     }
 
 -- it can be gone over, into n bytes
@@ -92,13 +108,13 @@ pub record Halted (l : Given) (h : Course) (b : ℕ) (d e : List ℕ) (x : Stop)
 
 -- the one or the other
 pub record Moved (l : Given) (h : Course) (a b : ℕ) (d e : List ℕ) (w : Went) : Type 0 where
-  pub on : (r : Carried) (s : Stream) → w ≡ On r s → Gone l h a b d e r s
-  pub stop : (x : Stop) → w ≡ Stopped x → Halted l h b d e x
+  pub on : (r : Carried) (s : Stream) → w ≡ Ok (r, s) → Gone l h a b d e r s
+  pub stop : (x : Stop) → w ≡ Err x → Halted l h b d e x
 
 -- the same for every run that stands here; and the next chunk can be read
 pub record Goes (l : Given) (a b : ℕ) (r : Carried) (s : Stream) (d e : List ℕ) (w : Went) : Type 0 where
   pub long : length e ≡ length d
-  pub onward : (q : Carried) (t : Stream) → w ≡ On q t → Onward l.seg q t
+  pub onward : (q : Carried) (t : Stream) → w ≡ Ok (q, t) → Onward l.seg q t
   pub moved : (h : Course) → Stands l h a r s → Moved l h a b d e w
 
 -- nothing is pending, and every index is 0

@@ -4,41 +4,33 @@
 ghost use Rattle.std.specs.Prelude.{◌<◌, length};
 ghost use Rattle.crn_format.specs.Grid.{chunk_count};
 ghost use Rattle.crn_symbol_codec.specs.Cursors.{Holds};
-ghost use Rattle.crn_unpacker.specs.Going.{given, Fit, Goes, none};
+ghost use Rattle.crn_unpacker.specs.Going.{given_in, Fit, Goes, none};
 
 use crate::rows::face_rows;
-use crn_chunks::{Carried, Planes, Stop, Stream};
+use crn_chunks::{Carried, Stop, Stream, Supply};
 use crn_format::Grid;
+use crn_formats::Palettes;
 
 mod rows;
 
-// How going over chunks ended: what is carried on, or the refusal.
+// What a level is painted from, and its grid.
 #[derive(Clone, Copy)]
-pub enum Went {
-    On(Carried, Stream),
-    Stopped(Stop),
+pub struct Level<'a> {
+    pub supply: Supply<'a>,
+    pub palettes: Palettes<'a>,
+    pub grid: Grid,
 }
 
+// How going over chunks ended: what is carried on, with the stream; or the refusal.
+pub type Went = Result<(Carried, Stream), Stop>;
+
 // Every face, each starting left to right, with nothing pending and every index 0 at the first.
-pub fn paint(
-    dst: &mut [u8],
-    lookup: &[u32],
-    sorted: &[u16],
-    seg: &[u8],
-    cends: &[u32],
-    csels: &[u32],
-    aends: &[u16],
-    asels: &[u16],
-    ps: Planes,
-    g: Grid,
-    s: Stream,
-) -> Went
-    requires fit { Fit (given lookup.now sorted.now seg.now cends.now csels.now aends.now asels.now ps g) (length dst.old) }
-    requires holds { Holds seg.now s.cursor }
-    ensures { Goes (given lookup.now sorted.now seg.now cends.now csels.now aends.now asels.now ps g) 0 (chunk_count g) none s dst.old dst.new result }
+pub fn paint(dst: &mut [u8], level: &Level, s: Stream) -> Went
+    requires fit { Fit (given_in level.now) (length dst.old) }
+    requires holds { Holds level.now.supply.seg.now s.cursor }
+    ensures { Goes (given_in level.now) 0 (chunk_count level.now.grid) none s dst.old dst.new result }
 {
     let mut out = [0u64; 16];
-    let faces = g.faces;
     let mut n = Carried {
         pending: 0,
         e0: 0,
@@ -47,17 +39,10 @@ pub fn paint(
         s1: 0,
     };
     let mut t = s;
-    let mut face = 0;
-    while face < faces {
-        let w = face_rows(
-            dst, &mut out, lookup, sorted, seg, cends, csels, aends, asels, ps, g, n, t, face,
-        );
-        let Went::On(m, u) = w else {
-            return w;
-        };
+    for face in 0..level.grid.faces {
+        let (m, u) = face_rows(dst, &mut out, level, n, t, face)?;
         n = m;
         t = u;
-        face += 1;
     }
-    Went::On(n, t)
+    Ok((n, t))
 }

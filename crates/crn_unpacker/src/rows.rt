@@ -4,53 +4,49 @@ ghost use Rattle.crn_format.specs.Choice.{pick};
 ghost use Rattle.crn_format.specs.Grid.{chunk_rows};
 ghost use Rattle.crn_chunks.specs.Meaning.{Onward};
 ghost use Rattle.crn_blocks.specs.Sheet.{Covered, chunk_number, row_start};
-ghost use Rattle.crn_unpacker.specs.Going.{given, Fit, Goes};
+ghost use Rattle.crn_unpacker.specs.Going.{given_in, Fit, Goes};
 ghost use Rattle.crn_unpacker.specs.Rows.{Rows};
 
-use crate::Went;
+use crate::{Level, Went};
 use crn_chunk_blocks::blocks;
-use crn_chunks::{Carried, Chunked, Planes, Stream};
-use crn_format::Grid;
+use crn_chunks::{Carried, Stream};
 use crn_quick::read_chunk;
 
 // A chunk is read whole, then its blocks are put in their places.
 fn chunk(
     dst: &mut [u8],
     out: &mut [u64; 16],
-    lookup: &[u32],
-    sorted: &[u16],
-    seg: &[u8],
-    cends: &[u32],
-    csels: &[u32],
-    aends: &[u16],
-    asels: &[u16],
-    ps: Planes,
-    g: Grid,
+    level: &Level,
     r: Carried,
     s: Stream,
     face: usize,
     cx: usize,
     cy: usize,
 ) -> Went
-    requires fit { Fit (given lookup.now sorted.now seg.now cends.now csels.now aends.now asels.now ps g) (length dst.old) }
-    requires onward { Onward seg.now r s }
-    requires covered { Covered g face cx cy }
-    ensures { Goes (given lookup.now sorted.now seg.now cends.now csels.now aends.now asels.now ps g) (chunk_number g face cx cy) (chunk_number g face cx cy + 1) r s dst.old dst.new result }
+    requires fit { Fit (given_in level.now) (length dst.old) }
+    requires onward { Onward level.now.supply.seg.now r s }
+    requires covered { Covered level.now.grid face cx cy }
+    ensures { Goes (given_in level.now)
+        (chunk_number level.now.grid face cx cy) (chunk_number level.now.grid face cx cy + 1)
+        r s dst.old dst.new result }
 {
-    let columns = g.columns;
-    let rows = g.rows;
-    let right = 2 * cx + 1 < columns;
-    let bottom = 2 * cy + 1 < rows;
-    let a = read_chunk(lookup, sorted, seg, ps, right, bottom, r, s, out);
-    match a {
-        Chunked::Refused(x) => Went::Stopped(x),
-        Chunked::Read(e, n, t) => {
-            blocks(
-                dst, out, cends, csels, aends, asels, ps, g, e, face, cx, cy, right, bottom,
-            );
-            Went::On(n, t)
-        }
-    }
+    let right = 2 * cx + 1 < level.grid.columns;
+    let bottom = 2 * cy + 1 < level.grid.rows;
+    let (e, n, t) = read_chunk(&level.supply, right, bottom, r, s, out)?;
+    blocks(
+        dst,
+        out,
+        &level.palettes,
+        level.supply.planes,
+        level.grid,
+        e,
+        face,
+        cx,
+        cy,
+        right,
+        bottom,
+    );
+    Ok((n, t))
 }
 
 // The column of chunk k of a row.
@@ -58,54 +54,36 @@ fn column(turned: bool, wide: usize, k: usize) -> usize
     requires { k < wide }
     ensures { result ≡ pick turned (wide - 1 - k) k }
 {
-    if turned {
-        return wide - 1 - k;
-    }
-    k
+    if turned { wide - 1 - k } else { k }
 }
 
 // The chunks of a chunk row, left to right, or turned, right to left.
 fn row(
     dst: &mut [u8],
     out: &mut [u64; 16],
-    lookup: &[u32],
-    sorted: &[u16],
-    seg: &[u8],
-    cends: &[u32],
-    csels: &[u32],
-    aends: &[u16],
-    asels: &[u16],
-    ps: Planes,
-    g: Grid,
+    level: &Level,
     r: Carried,
     s: Stream,
     face: usize,
     cy: usize,
     turned: bool,
 ) -> Went
-    requires fit { Fit (given lookup.now sorted.now seg.now cends.now csels.now aends.now asels.now ps g) (length dst.old) }
-    requires onward { Onward seg.now r s }
-    requires row_in { (face < g.faces) × (cy < chunk_rows g) × (turned ≡ eqb (cy % 2) 1) }
-    ensures { Goes (given lookup.now sorted.now seg.now cends.now csels.now aends.now asels.now ps g) (row_start g face cy) (row_start g face (cy + 1)) r s dst.old dst.new result }
+    requires fit { Fit (given_in level.now) (length dst.old) }
+    requires onward { Onward level.now.supply.seg.now r s }
+    requires row_in { (face < level.now.grid.faces) × (cy < chunk_rows level.now.grid) × (turned ≡ eqb (cy % 2) 1) }
+    ensures { Goes (given_in level.now)
+        (row_start level.now.grid face cy) (row_start level.now.grid face (cy + 1))
+        r s dst.old dst.new result }
 {
-    let columns = g.columns;
-    let wide = (columns + 1) / 2;
+    let wide = (level.grid.columns + 1) / 2;
     let mut n = r;
     let mut t = s;
-    let mut k = 0;
-    while k < wide {
-        let cx = column(turned, wide, k);
-        let w = chunk(
-            dst, out, lookup, sorted, seg, cends, csels, aends, asels, ps, g, n, t, face, cx, cy,
-        );
-        let Went::On(m, u) = w else {
-            return w;
-        };
+    for k in 0..wide {
+        let (m, u) = chunk(dst, out, level, n, t, face, column(turned, wide, k), cy)?;
         n = m;
         t = u;
-        k += 1;
     }
-    Went::On(n, t)
+    Ok((n, t))
 }
 
 // `left` chunk rows from cy on, the first of them left to right.
@@ -113,54 +91,25 @@ fn row(
 fn rightward(
     dst: &mut [u8],
     out: &mut [u64; 16],
-    lookup: &[u32],
-    sorted: &[u16],
-    seg: &[u8],
-    cends: &[u32],
-    csels: &[u32],
-    aends: &[u16],
-    asels: &[u16],
-    ps: Planes,
-    g: Grid,
+    level: &Level,
     r: Carried,
     s: Stream,
     face: usize,
     cy: usize,
     left: usize,
 ) -> Went
-    requires { (Fit (given lookup.now sorted.now seg.now cends.now csels.now aends.now asels.now ps g)
-        (length dst.old)) × ((Onward seg.now r s) × (Rows g face cy left 0)) }
-    ensures { Goes (given lookup.now sorted.now seg.now cends.now csels.now
-        aends.now asels.now ps g) (row_start g face cy) (row_start g face (cy + left)) r s
-        dst.old dst.new result }
+    requires fit { Fit (given_in level.now) (length dst.old) }
+    requires onward { Onward level.now.supply.seg.now r s }
+    requires rows { Rows level.now.grid face cy left 0 }
+    ensures { Goes (given_in level.now)
+        (row_start level.now.grid face cy) (row_start level.now.grid face (cy + left))
+        r s dst.old dst.new result }
 {
     if left == 0 {
-        return Went::On(r, s);
+        return Ok((r, s));
     }
-    let w = row(
-        dst, out, lookup, sorted, seg, cends, csels, aends, asels, ps, g, r, s, face, cy, false,
-    );
-    let Went::On(n, t) = w else {
-        return w;
-    };
-    leftward(
-        dst,
-        out,
-        lookup,
-        sorted,
-        seg,
-        cends,
-        csels,
-        aends,
-        asels,
-        ps,
-        g,
-        n,
-        t,
-        face,
-        cy + 1,
-        left - 1,
-    )
+    let (n, t) = row(dst, out, level, r, s, face, cy, false)?;
+    leftward(dst, out, level, n, t, face, cy + 1, left - 1)
 }
 
 // `left` chunk rows from cy on, the first of them right to left.
@@ -168,54 +117,25 @@ fn rightward(
 fn leftward(
     dst: &mut [u8],
     out: &mut [u64; 16],
-    lookup: &[u32],
-    sorted: &[u16],
-    seg: &[u8],
-    cends: &[u32],
-    csels: &[u32],
-    aends: &[u16],
-    asels: &[u16],
-    ps: Planes,
-    g: Grid,
+    level: &Level,
     r: Carried,
     s: Stream,
     face: usize,
     cy: usize,
     left: usize,
 ) -> Went
-    requires { (Fit (given lookup.now sorted.now seg.now cends.now csels.now aends.now asels.now ps g)
-        (length dst.old)) × ((Onward seg.now r s) × (Rows g face cy left 1)) }
-    ensures { Goes (given lookup.now sorted.now seg.now cends.now csels.now
-        aends.now asels.now ps g) (row_start g face cy) (row_start g face (cy + left)) r s
-        dst.old dst.new result }
+    requires fit { Fit (given_in level.now) (length dst.old) }
+    requires onward { Onward level.now.supply.seg.now r s }
+    requires rows { Rows level.now.grid face cy left 1 }
+    ensures { Goes (given_in level.now)
+        (row_start level.now.grid face cy) (row_start level.now.grid face (cy + left))
+        r s dst.old dst.new result }
 {
     if left == 0 {
-        return Went::On(r, s);
+        return Ok((r, s));
     }
-    let w = row(
-        dst, out, lookup, sorted, seg, cends, csels, aends, asels, ps, g, r, s, face, cy, true,
-    );
-    let Went::On(n, t) = w else {
-        return w;
-    };
-    rightward(
-        dst,
-        out,
-        lookup,
-        sorted,
-        seg,
-        cends,
-        csels,
-        aends,
-        asels,
-        ps,
-        g,
-        n,
-        t,
-        face,
-        cy + 1,
-        left - 1,
-    )
+    let (n, t) = row(dst, out, level, r, s, face, cy, true)?;
+    rightward(dst, out, level, n, t, face, cy + 1, left - 1)
 }
 
 // So many chunk rows call each other at most, which bounds the stack at any size. An even number, so that every band begins left to right.
@@ -225,59 +145,27 @@ const BAND: usize = 32;
 pub fn face_rows(
     dst: &mut [u8],
     out: &mut [u64; 16],
-    lookup: &[u32],
-    sorted: &[u16],
-    seg: &[u8],
-    cends: &[u32],
-    csels: &[u32],
-    aends: &[u16],
-    asels: &[u16],
-    ps: Planes,
-    g: Grid,
+    level: &Level,
     r: Carried,
     s: Stream,
     face: usize,
 ) -> Went
-    requires fit { Fit (given lookup.now sorted.now seg.now cends.now csels.now aends.now asels.now ps g)
-        (length dst.old) }
-    requires onward { Onward seg.now r s }
-    requires face_in { face < g.faces }
-    ensures { Goes (given lookup.now sorted.now seg.now cends.now csels.now
-        aends.now asels.now ps g) (row_start g face 0) (row_start g face (chunk_rows g)) r s
-        dst.old dst.new result }
+    requires fit { Fit (given_in level.now) (length dst.old) }
+    requires onward { Onward level.now.supply.seg.now r s }
+    requires face_in { face < level.now.grid.faces }
+    ensures { Goes (given_in level.now)
+        (row_start level.now.grid face 0) (row_start level.now.grid face (chunk_rows level.now.grid))
+        r s dst.old dst.new result }
 {
-    let rows = g.rows;
-    let high = (rows + 1) / 2;
+    let high = (level.grid.rows + 1) / 2;
     let mut n = r;
     let mut t = s;
     let mut cy = 0;
     while BAND < high - cy {
-        let w = rightward(
-            dst, out, lookup, sorted, seg, cends, csels, aends, asels, ps, g, n, t, face, cy, BAND,
-        );
-        let Went::On(m, u) = w else {
-            return w;
-        };
+        let (m, u) = rightward(dst, out, level, n, t, face, cy, BAND)?;
         n = m;
         t = u;
         cy += BAND;
     }
-    rightward(
-        dst,
-        out,
-        lookup,
-        sorted,
-        seg,
-        cends,
-        csels,
-        aends,
-        asels,
-        ps,
-        g,
-        n,
-        t,
-        face,
-        cy,
-        high - cy,
-    )
+    rightward(dst, out, level, n, t, face, cy, high - cy)
 }

@@ -1,17 +1,24 @@
--- Little-endian numbers: past the end, in two halves, and their bytes again. Assumes nothing.
+-- Little-endian numbers: of the same bytes, in two halves, and their bytes again. Assumes nothing.
 use mathlib.Core.Path.{◌≡◌, refl}
 use mathlib.Core.List.{List}
-use Prim.Native.Nat.{ℕ, zero, suc, ◌+◌, ◌*◌, ◌/◌, ◌≤◌, ◌<◌}
+use Prim.Native.Nat.{ℕ, zero, suc, ◌+◌, ◌*◌, ◌/◌, ◌<◌}
 use native.Mathlib.Omega.{arith}
+use native.Mathlib.Numerals.{one-add}
 use native.Mathlib.Nat.{add-zero, add_assoc, not-suc-le-zero}
-use lib.ListN.{length, get_or, get_or-eq_default}
+use lib.ListN.{get_or}
 use Rattle.crn_format.specs.Grid.{little}
 use Rattle.crn_utils.specs.Little.{little_at}
 
-pub past_end : (s : List ℕ) (n at : ℕ) → length s ≤ at → little_at s at n ≡ 0
+-- the same bytes spell the same number
+pub alike : (r s : List ℕ) (n from at : ℕ) → ((k : ℕ) → k < n → get_or r (from + k) 0 ≡ get_or s (at + k) 0)
+    → little_at r from n ≡ little_at s at n
 unfolding little_at
-past_end s zero at h = refl
-past_end s (suc n) at h = omega (arith, get_or-eq_default s 0 h, past_end s n (at + 1) (omega arith))
+alike r s zero from at h = refl
+alike r s (suc n) from at h =
+    let first : get_or r from 0 ≡ get_or s at 0 = simp add-zero at (h 0 (omega arith)) in
+    let rest : (k : ℕ) → k < n → get_or r (from + 1 + k) 0 ≡ get_or s (at + 1 + k) 0 =
+    λ k l. simp (add_assoc, one-add) (h (suc k) (omega arith)) in
+    omega (arith, first, alike r s n (from + 1) (at + 1) rest)
 
 pub halves : (s : List ℕ) (at : ℕ) → little_at s at 8 ≡ little_at s at 4 + 4294967296 * little_at s (at + 4) 4
 unfolding little_at

@@ -5,9 +5,9 @@
 mod whole; // the record whole
 
 pub use crn_decomp::{look, look_at};
-pub use crn_level::{Unpacked, unpack_level, unpack_level_by};
+pub use crn_level::{Refused, Unpacked, unpack_level, unpack_level_by};
 pub use crn_levels::{Several, unpack_levels};
-pub use crn_opening::{Opened, OpenedHeader, load_into, open_into};
+pub use crn_opening::{OpenedParts, load_into, open_into};
 pub use dds::{dds_bytes, write_dds};
-pub use picture::{Needed, Written};
+pub use picture::Written;
 pub use whole::{load, open};

@@ -1,3 +1,4 @@
 pub mod Answers
 pub mod Sizes
 pub mod Version
+pub mod Opening

@@ -7,14 +7,21 @@ ghost use Rattle.picture.specs.Answers.{Writes, needed_for};
 ghost use Rattle.dds.specs.Header.{dds_of};
 
 use crn_format::Header;
-use crn_formats::Counts;
-use crunch::{Needed, Written};
+use crn_formats::{CodeTables, Counts, Palettes};
+use crunch::Written;
+use picture::Needed;
 
 // What a host has to lend for a DDS file of this header: refusal 2 or 16, or so many bytes.
 pub fn crunch_dds_bytes(header: Header) -> Needed
     ensures { result ≡ needed_for dds_of header }
 {
-    crunch::dds_bytes(header)
+    match crunch::dds_bytes(header) {
+        Ok(bytes) => Needed { refusal: 0, bytes },
+        Err(refusal) => Needed {
+            refusal: refusal.into(),
+            bytes: 0,
+        },
+    }
 }
 
 // All levels of a record by its parts, as a DDS file in the first bytes of a lent destination.
@@ -42,17 +49,21 @@ pub fn crunch_write_dds_parts<'a>(
 {
     crunch::write_dds(
         header,
-        counts,
-        chunk,
-        color_ends,
-        color_sels,
-        alpha_ends,
-        alpha_sels,
+        &CodeTables {
+            counts,
+            chunk,
+            color_ends,
+            color_sels,
+            alpha_ends,
+            alpha_sels,
+        },
         file,
-        color_endpoints,
-        color_selectors,
-        alpha_endpoints,
-        alpha_selectors,
+        &Palettes {
+            color_endpoints,
+            color_selectors,
+            alpha_endpoints,
+            alpha_selectors,
+        },
         dst,
     )
 }

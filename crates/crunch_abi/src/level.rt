@@ -7,8 +7,8 @@ ghost use Rattle.crn_levels.specs.Several.{several_of, Gives};
 ghost use Rattle.crunch_abi.specs.Answers.{answer_of, Answers};
 
 use crn_format::Header;
-use crn_formats::Counts;
-use crn_level::Unpacked;
+use crn_formats::{CodeTables, Counts, Palettes};
+use crn_level::Drawn;
 use crn_levels::Several;
 
 // Refusal 0 with the symbols drawn and the cut-outs; or the refusal, the bit that it names and the symbols drawn.
@@ -22,24 +22,20 @@ pub struct Answer {
 }
 
 // An answer as one struct: an enum is nothing that a host of another language could take apart.
-fn flat(u: Unpacked) -> Answer
+fn flat(u: Drawn) -> Answer
     ensures { result ≡ answer_of u }
 {
     match u {
-        Unpacked::Blocks { symbols, cutouts } => Answer {
+        Ok(unpacked) => Answer {
             refusal: 0,
             at: 0,
-            symbols: symbols,
-            cutouts: cutouts,
+            symbols: unpacked.symbols,
+            cutouts: unpacked.cutouts,
         },
-        Unpacked::Refused {
-            number,
-            symbols,
-            at,
-        } => Answer {
-            refusal: number,
-            at: at,
-            symbols: symbols,
+        Err(refused) => Answer {
+            refusal: refused.refusal.into(),
+            at: refused.at,
+            symbols: refused.symbols,
             cutouts: 0,
         },
     }
@@ -69,17 +65,21 @@ pub fn crunch_unpack_level_parts<'a>(
 {
     flat(crunch::unpack_level_by(
         header,
-        counts,
-        chunk,
-        color_ends,
-        color_sels,
-        alpha_ends,
-        alpha_sels,
+        &CodeTables {
+            counts,
+            chunk,
+            color_ends,
+            color_sels,
+            alpha_ends,
+            alpha_sels,
+        },
         file,
-        color_endpoints,
-        color_selectors,
-        alpha_endpoints,
-        alpha_selectors,
+        &Palettes {
+            color_endpoints,
+            color_selectors,
+            alpha_endpoints,
+            alpha_selectors,
+        },
         level,
         pitch,
         distance,
@@ -110,17 +110,21 @@ pub fn crunch_unpack_levels_parts<'a>(
 {
     crn_levels::unpack_levels(
         header,
-        counts,
-        chunk,
-        color_ends,
-        color_sels,
-        alpha_ends,
-        alpha_sels,
+        &CodeTables {
+            counts,
+            chunk,
+            color_ends,
+            color_sels,
+            alpha_ends,
+            alpha_sels,
+        },
         file,
-        color_endpoints,
-        color_selectors,
-        alpha_endpoints,
-        alpha_selectors,
+        &Palettes {
+            color_endpoints,
+            color_selectors,
+            alpha_endpoints,
+            alpha_selectors,
+        },
         first,
         budget,
         dst,

@@ -1,9 +1,42 @@
 // The palettes and tables of a file that was looked at, by the look's header (document 02, request 2).
 ghost use Rattle.crn_formats.specs.Lent.{lent_of};
-ghost use Rattle.crn_opening.specs.Opens.{arrays_of, Loads};
+ghost use Rattle.std.specs.Prelude.{◌≡◌};
+ghost use Rattle.crn_opening.specs.Opens.{arrays_of};
+ghost use Rattle.crunch_abi.specs.Opening.{flat_of, Loads};
 
-use crn_format::Header;
-use crunch::OpenedHeader;
+use crn_format::{Fault, Header};
+use crn_formats::Counts;
+use crunch::OpenedParts;
+
+// Refusal 0 with the header and the tables' counts; else the refusal, the bit that it names (0 before the streams), and the empty record's.
+#[repr(C)]
+#[derive(Clone, Copy)]
+pub struct OpenedHeader {
+    pub refusal: u32,
+    pub at: usize,
+    pub header: Header,
+    pub counts: Counts,
+}
+
+// An opening's answer as one struct.
+pub fn flat(opened: Result<OpenedParts, Fault>) -> OpenedHeader
+    ensures { result ≡ flat_of opened }
+{
+    match opened {
+        Ok(parts) => OpenedHeader {
+            refusal: 0,
+            at: 0,
+            header: parts.header,
+            counts: parts.counts,
+        },
+        Err(fault) => OpenedHeader {
+            refusal: fault.refusal.into(),
+            at: fault.at,
+            header: Header::default(),
+            counts: Counts::default(),
+        },
+    }
+}
 
 // Refusal 17, with nothing touched that was lent, where the header is not what the look finds in this file; else what `crunch_open_parts`
 // answers and leaves.
@@ -31,7 +64,7 @@ pub fn crunch_load_parts(
         alpha_ends.new alpha_sels.new)
         result }
 {
-    crunch::load_into(
+    flat(crunch::load_into(
         header,
         file,
         color_endpoints,
@@ -43,5 +76,5 @@ pub fn crunch_load_parts(
         color_sels,
         alpha_ends,
         alpha_sels,
-    )
+    ))
 }

@@ -9,9 +9,10 @@ ghost use Rattle.crn_format.specs.Unpacking.{unpacking as unpacking_of};
 ghost use Rattle.crn_formats.specs.Lent.{lent_of};
 ghost use Rattle.crn_formats.specs.Records.{record_by};
 ghost use Rattle.crn_levels.specs.Several.{several_of, Gives};
-ghost use Rattle.crn_opening.specs.Opens.{arrays_of, opened_by, Loads, Opens};
+ghost use Rattle.crn_opening.specs.Opens.{arrays_of, Opens};
 ghost use Rattle.crn_sizes.specs.Sizes.{level_sizes};
 ghost use Rattle.crunch_abi.specs.Answers.{Answers};
+ghost use Rattle.crunch_abi.specs.Opening.{opened_by, Loads};
 ghost use Rattle.crunch_abi.specs.Sizes.{palette_words};
 ghost use Rattle.crunch_abi.specs.Version.{abi_version};
 ghost use Rattle.dds.specs.Header.{dds_of};
@@ -22,8 +23,7 @@ ghost use Rattle.texels.specs.Answers.{Answered};
 use bcn_format::Face;
 use crn_format::{Header, Looked};
 use crn_formats::Counts;
-use crunch::OpenedHeader;
-use crunch_abi::{Answer, LevelSizes, Needed, PaletteWords, Several, Written};
+use crunch_abi::{Answer, LevelSizes, Needed, OpenedHeader, PaletteWords, Several, Written};
 
 // The version that this archive has.
 #[unsafe(no_mangle)]
@@ -49,8 +49,8 @@ pub extern "C" fn crunch_look_at(head: &[u8], length: usize) -> Looked
     crunch_abi::crunch_look_at(head, length)
 }
 
-// A file opened with four lent buffers, and its record by its parts: the header and the tables' counts in the answer, the tables' lengths in
-// five lent arrays.
+// A file opened with four lent buffers, and its record by its parts: the header and the tables' counts in the answer, the tables' lengths
+// in five lent arrays.
 #[unsafe(no_mangle)]
 pub extern "C" fn crunch_open_parts(
     file: &[u8],

@@ -2,7 +2,9 @@
 use Rattle.std.specs.Prelude.{ℕ, ◌+◌, List, [], ◌∷◌, ◌++◌, ltb, eqb}
 use Rattle.std.proofs.lemmas.List.Edits.{sets}
 use Rattle.crn_format.specs.Choice.{pick, either}
-use Rattle.crn_format.specs.Header.{Kind, DXT1, DXT5, DXT5A, DXN, unknown, kind_of}
+use Rattle.crn_format.specs.declared.Kind.{Kind}
+use Rattle.crn_format.specs.declared.Kind.TheVariants.{DXT1, DXT5, DXT5A, DXN, Unknown}
+use Rattle.crn_format.specs.Header.{kind_of}
 use Rattle.crn_format.specs.declared.Header.{Header}
 use Rattle.picture.specs.declared.Picture.{Picture}
 use Rattle.picture.specs.Surfaces.{picture_of, surface, by_face}
@@ -21,7 +23,7 @@ letters DXT1 = 0x31545844
 letters DXT5 = 0x35545844
 letters DXT5A = 0x55344342
 letters DXN = 0x55354342
-letters unknown = 0
+letters Unknown = 0
 
 -- DDSD: caps 1, height 2, width 4, pixel format 0x1000, mip map count 0x20000, linear size 0x80000
 abbrev pub header_flags : ℕ

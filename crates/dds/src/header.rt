@@ -10,30 +10,44 @@ use crn_format::Header;
 use crn_sizes::level_sizes;
 use picture::{put_bytes, put_words};
 
+// How many bytes the magic and the header have.
+pub const HEAD_BYTES: usize = 128;
+
+// How many bytes the header has, and its pixel format.
+const HEADER_SIZE: u32 = 124;
+
+const PIXEL_FORMAT_SIZE: u32 = 32;
+
+// Caps, height, width, pixel format, mip map count and linear size are given.
+const HEADER_FLAGS: u32 = 0xA1007;
+
+// The pixel format is told by four letters.
+const BY_LETTERS: u32 = 4;
+
 // DXT1, DXT5, BC5U or BC4U.
 fn letters_of(format: u32) -> u32
     requires { goes_out format ≡ true }
     ensures { result ≡ letters (kind_of format) }
 {
-    match format {
-        0 => 0x31545844,
-        2 => 0x35545844,
-        7 => 0x55354342,
-        _ => 0x55344342,
-    }
+    u32::from_le_bytes(match format {
+        0 => *b"DXT1",
+        2 => *b"DXT5",
+        7 => *b"BC5U",
+        _ => *b"BC4U",
+    })
 }
 
 // A texture; a mip map where there are levels below the first; complex where there is more than one surface.
 fn caps_of(h: Header) -> u32
     ensures { result ≡ caps_of (picture_of h) }
 {
-    if 1 < h.levels {
-        return 0x401008;
+    if h.levels > 1 {
+        0x401008
+    } else if h.faces == 6 {
+        0x1008
+    } else {
+        0x1000
     }
-    if h.faces == 6 {
-        return 0x1008;
-    }
-    0x1000
 }
 
 // A cube map, with each of its faces.
@@ -54,8 +68,8 @@ pub fn put_header(h: Header, dst: &mut [u8])
     let letters = letters_of(h.format);
     put_bytes(b"DDS ", 0, dst);
     let words = [
-        124,
-        0xA1007,
+        HEADER_SIZE,
+        HEADER_FLAGS,
         h.height,
         h.width,
         linear,
@@ -72,8 +86,8 @@ pub fn put_header(h: Header, dst: &mut [u8])
         0,
         0,
         0,
-        32,
-        4,
+        PIXEL_FORMAT_SIZE,
+        BY_LETTERS,
         letters,
         0,
         0,

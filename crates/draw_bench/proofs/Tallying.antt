@@ -5,8 +5,9 @@ use Rattle.crn_format.proofs.Steps.{answered}
 use Rattle.crn_symbol_codec.specs.Cursors.{place, Holds}
 use Rattle.crn_symbol_codec.specs.Taking.{Takes}
 use Rattle.crn_symbol_codec.specs.declared.Cursor.{Cursor}
-use Rattle.crn_symbol_codec.specs.declared.Taken.{Taken}
-use Rattle.crn_symbol_codec.specs.declared.Taken.TheVariants.{Value, Failed}
+use Rattle.std.specs.Prelude.{Ok, Err}
+use Rattle.crn_symbol_codec.specs.Taking.{Taken}
+use Rattle.crn_format.specs.declared.Refusal.{Refusal}
 use Rattle.crn_symbol_codec.proofs.Serving.{taken-value, taken-failed, taken-holds}
 use Rattle.draw_bench.specs.Tally.{tally, tallied, total}
 
@@ -40,11 +41,11 @@ module _ (ls seg : List ℕ) (n : ℕ) (c : Cursor) (sum k : ℕ) (i : Tallied l
       ap tallied (sym (answered (from_bits seg) sum (spot (place c) 0)) ∙ rw e at i.same)
 
   module _ (h : k < n) (r : Taken) (t : Takes seg (a_symbol ls) c r) where
-    pub fails : (m : ℕ) → r ≡ Failed m → 0 ≡ total ls seg n
+    pub fails : (m : Refusal) → r ≡ Err m → 0 ≡ total ls seg n
     unfolding tally
     fails m e = ap tallied (sym (taken-failed t (λ s. tally ls (n - (k + 1)) ((sum + s) % 2 ^ 64)) 0 e) ∙ rw (split n k h) at i.same)
 
-    pub more : (s : ℕ) (d : Cursor) → r ≡ Value s d → Tallied ls seg n d ((sum + s) % 2 ^ 64) (k + 1)
+    pub more : (s : ℕ) (d : Cursor) → r ≡ Ok (s, d) → Tallied ls seg n d ((sum + s) % 2 ^ 64) (k + 1)
     unfolding tally
     more s d e =
         record {

@@ -5,30 +5,21 @@ ghost use Rattle.std.specs.Prelude.{◌≡◌};
 ghost use Rattle.crn_symbol_codec.specs.Decoders.{Decodes};
 ghost use Rattle.draw_bench.specs.Tally.{total as total_of, sum_of_draws as sum_of_draws};
 
-use crn_symbol_codec::Taken;
-
-fn wide(x: u32) -> u64
-    ensures { result ≡ x }
-{
-    x as u64
-}
+use crn_symbol_codec::Decoder;
 
 // The lengths are there for the contract alone.
-fn total(lengths: &[u8], lookup: &[u32], sorted: &[u16], seg: &[u8], n: usize) -> u64
-    requires { Decodes lengths.now lookup.now sorted.now }
+fn total(lengths: &[u8], code: Decoder, seg: &[u8], n: usize) -> u64
+    requires { Decodes lengths.now code.lookup.now code.sorted.now }
     ensures { result ≡ total_of lengths.now seg.now n }
 {
     let mut c = crn_symbol_codec::start(seg);
     let mut sum: u64 = 0;
-    let mut k: usize = 0;
-    while k < n {
-        let t = crn_symbol_codec::draw(lookup, sorted, seg, c);
-        let Taken::Value(s, d) = t else {
+    for _ in 0..n {
+        let Ok((symbol, next)) = crn_symbol_codec::draw(code, seg, c) else {
             return 0;
         };
-        sum = std::num::wrapping_add_u64(sum, wide(s));
-        c = d;
-        k += 1;
+        sum = sum.wrapping_add(u64::from(symbol));
+        c = next;
     }
     sum
 }
@@ -46,5 +37,9 @@ pub fn sum_of_draws(lengths: &[u8], seg: &[u8], n: usize) -> u64
     let mut lookup = [0u32; 8224];
     let mut sorted = [0u16; 8192];
     crn_static_huffman_data_model::build(lengths, 13, &mut lookup, &mut sorted);
-    total(lengths, &lookup, &sorted, seg, n)
+    let code = Decoder {
+        lookup: &lookup,
+        sorted: &sorted,
+    };
+    total(lengths, code, seg, n)
 }

@@ -4,7 +4,9 @@ use mathlib.Core.Path.{◌≡◌, refl, sym, ap, ◌∙◌}
 use native.Mathlib.Omega.{arith}
 use native.Mathlib.Decide.{dec_lt}
 use native.Mathlib.Nat.{mul_assoc, mul-mod_left}
-use Rattle.crn_format.specs.Header.{Kind, DXT1, DXT5, DXT5A, DXN, unknown, kind_of, block_bytes}
+use Rattle.crn_format.specs.declared.Kind.{Kind}
+use Rattle.crn_format.specs.declared.Kind.TheVariants.{DXT1, DXT5, DXT5A, DXN, Unknown}
+use Rattle.crn_format.specs.Header.{kind_of, block_bytes}
 use Rattle.picture.specs.declared.Picture.{Picture}
 use Rattle.picture.specs.Surfaces.{surface, chain_to}
 
@@ -13,7 +15,7 @@ bytes-fours DXT1 = refl
 bytes-fours DXT5 = refl
 bytes-fours DXT5A = refl
 bytes-fours DXN = refl
-bytes-fours unknown = refl
+bytes-fours Unknown = refl
 
 -- a multiple of a multiple of four is one
 pub times_four : (n m : ℕ) → m % 4 ≡ 0 → n * m % 4 ≡ 0

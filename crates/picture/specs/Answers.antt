@@ -1,8 +1,11 @@
 -- What the functions that write a container answer.
-use Rattle.std.specs.Prelude.{ℕ, ◌≡◌, List}
+use Rattle.std.specs.Prelude.{ℕ, ◌≡◌, List, Ok, Err}
+use Rattle.std.specs.declared.result.Result.{Result}
 use Rattle.crn_format.specs.Choice.{pick}
 use Rattle.crn_format.specs.Header.{within_limits}
+use Rattle.crn_format.specs.Refusals.{number_of}
 use Rattle.crn_format.specs.declared.Header.{Header}
+use Rattle.crn_format.specs.declared.Refusal.{Refusal}
 use Rattle.picture.specs.Kinds.{goes_out}
 use Rattle.picture.specs.Writing.{Sums, Stop, Container, Writing, written, refused}
 use Rattle.picture.specs.declared.Written.{Written}
@@ -20,6 +23,11 @@ stopped_by s =
 unfoldable pub Writes : Writing → List ℕ → Written → Type 0
 Writes (written n t d) after a = (a ≡ wrote_by n t) × (after ≡ d)
 Writes (refused s d) after a = (a ≡ stopped_by s) × (after ≡ d)
+
+-- an answer about the bytes of a file in numbers
+abbrev pub needed : Result ℕ Refusal → Needed
+needed (Ok n) = record { refusal = 0; bytes = n }
+needed (Err e) = record { refusal = number_of e; bytes = 0 }
 
 -- what a host has to lend for a file of a header: 2 or 16, or so many bytes
 unfoldable pub needed_for : (Header → Container) → Header → Needed

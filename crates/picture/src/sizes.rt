@@ -8,13 +8,11 @@ use crn_format::Header;
 use crn_sizes::level_sizes;
 
 // "Formats 0, 2, 7 and 9 go out" (request 1).
+#[tactic(auto, unfolding(crn_format::specs::Header::kind_of))]
 pub fn goes_out(format: u32) -> bool
     ensures { result ≡ goes_out format }
 {
-    match format {
-        0 | 2 | 7 | 9 => true,
-        _ => false,
-    }
+    matches!(format, 0 | 2 | 7 | 9)
 }
 
 // The bytes of all levels of one face.
@@ -22,11 +20,9 @@ pub fn chain_bytes(h: Header) -> usize
     requires { within_limits h ≡ true }
     ensures { result ≡ chain (picture_of h) }
 {
-    let mut level = 0;
     let mut sum = 0;
-    while level < h.levels {
+    for level in 0..h.levels {
         sum += level_sizes(h, level).distance;
-        level += 1;
     }
     sum
 }

@@ -1,4 +1,5 @@
 -- What is put into the region, and what lies beyond it, is the writing, over every container. Assumes nothing.
+use Rattle.std.specs.Prelude.{Ok, Err}
 use Prim.Native.Nat.{ℕ, ◌+◌, ◌≤◌}
 use mathlib.Core.Path.{◌≡◌, refl, sym, ap, subst, ◌∙◌}
 use mathlib.Core.Bool.{true}
@@ -15,31 +16,21 @@ use Rattle.crn_format.specs.declared.Record.{Record}
 use Rattle.picture.specs.Kinds.{goes_out}
 use Rattle.picture.specs.Writing.{Put, put, stopped, put_from, nothing, Container, finished, writing}
 use Rattle.picture.specs.Answers.{wrote_by, stopped_by, Writes}
-use Rattle.picture_levels.specs.declared.LevelsPut.{LevelsPut}
-use Rattle.picture_levels.specs.declared.LevelsPut.TheVariants.{Through, Stopped}
-use Rattle.picture_levels.specs.Puts.{Puts}
+use Rattle.picture_levels.specs.declared.Put.{Put as LevelsPut}
+use Rattle.picture_levels.specs.declared.NotPut.{NotPut}
+use Rattle.picture_levels.specs.Puts.{sums_of, stop_of, Puts}
 
 -- the definition's answer, by the code's
-was_in : (q : Put) (before d : List ℕ) {a : LevelsPut} {s c : ℕ} → a ≡ Through s c → Puts q before d a
-    → q ≡ put (record { symbols = s; cutouts = c }) d
+was_in : (q : Put) (before d : List ℕ) {a : LevelsPut} → Puts q before d (Ok a) → q ≡ put (sums_of a) d
 unfolding Puts
-was_in (put t e) before d {a} {s} {c} i h =
-    let es : t.symbols ≡ s = cc h.0 in
-    let ec : t.cutouts ≡ c = cc h.0 in
-    let there : e ≡ d = sym h.1 in
-    λ j. put (record { symbols = es j; cutouts = ec j }) (there j)
-was_in (stopped s) before d i h = let z : ◌≡◌ {A = ℕ} 0 1 = cc h.0 in absurd (omega arith)
+was_in (put t e) before d h = cc (h.0, h.1)
+was_in (stopped s) before d h = absurd h
 
-was_not : (q : Put) (before d : List ℕ) {a : LevelsPut} {k l b s : ℕ} → a ≡ Stopped k l b s → Puts q before d a
-    → (q ≡ stopped (record { refusal = k; level = l; bit = b; symbols = s })) × (d ≡ replicate (length before) 0)
+was_not : (q : Put) (before d : List ℕ) (x : NotPut) → Puts q before d (Err x)
+    → (q ≡ stopped (stop_of x)) × (d ≡ replicate (length before) 0)
 unfolding Puts
-was_not (put t e) before d i h = let z : ◌≡◌ {A = ℕ} 0 1 = cc h.0 in absurd (omega arith)
-was_not (stopped x) before d {a} {k} {l} {b} {s} i h =
-    let ek : x.refusal ≡ k = cc h.0 in
-    let el : x.level ≡ l = cc h.0 in
-    let eb : x.bit ≡ b = cc h.0 in
-    let es : x.symbols ≡ s = cc h.0 in
-    ((λ j. stopped (record { refusal = ek j; level = el j; bit = eb j; symbols = es j })), h.1)
+was_not (put t e) before d x h = absurd h
+was_not (stopped s) before d x h = (ap stopped (sym h.0), h.1)
 
 -- what is set at the front of a whole is set at the front of its first part
 pub sets-front : (vs region beyond : List ℕ) → length vs ≤ length region → sets (region ++ beyond) 0 vs ≡ sets region 0 vs ++ beyond
@@ -58,20 +49,20 @@ module _ (of : Header → Container) (r : Record) (file : List ℕ) (p : Palette
   unfolding writing
   by_region = rw (limits, tables, out, is, le-leb _ _ (subst (λ (k : ℕ). k ≤ length dst) is room))
 
-  module _ (region : List ℕ) {a : LevelsPut}
-      (puts : Puts (put_from r.header.levels (of r.header).plan r file p 0 nothing (take n dst)) (take n dst) region a) where
-    pub written_so : {s c : ℕ} {after : List ℕ} → a ≡ Through s c → after ≡ (of r.header).stamp c region ++ drop n dst
-        → Writes (writing of r file p dst) after (wrote_by n (record { symbols = s; cutouts = c }))
+  module _ (region : List ℕ) where
+    pub written_so : (a : LevelsPut)
+        → Puts (put_from r.header.levels (of r.header).plan r file p 0 nothing (take n dst)) (take n dst) region (Ok a)
+        → {after : List ℕ} → after ≡ (of r.header).stamp a.cutouts region ++ drop n dst
+        → Writes (writing of r file p dst) after (wrote_by n (sums_of a))
     unfolding finished Writes
-    written_so {s} {c} i so =
-        rw (by_region, was_in _ (take n dst) region i puts)
-        ((λ j. record { refusal = 0; level = 0; at = 0; bytes = is j; symbols = s; cutouts = c }), so)
+    written_so a puts so = rw (by_region, was_in _ (take n dst) region puts) ((λ j. wrote_by (is j) (sums_of a)), so)
 
-    pub stopped_so : {k l b s : ℕ} → a ≡ Stopped k l b s
-        → Writes (writing of r file p dst) (region ++ drop n dst) (stopped_by (record { refusal = k; level = l; bit = b; symbols = s }))
+    pub stopped_so : (x : NotPut)
+        → Puts (put_from r.header.levels (of r.header).plan r file p 0 nothing (take n dst)) (take n dst) region (Err x)
+        → Writes (writing of r file p dst) (region ++ drop n dst) (stopped_by (stop_of x))
     unfolding finished Writes
-    stopped_so i =
-        let w = was_not _ (take n dst) region i puts in
+    stopped_so x puts =
+        let w = was_not _ (take n dst) region x puts in
         let zero : region ≡ replicate (of r.header).plan.total 0 =
         w.1 ∙ ap (λ (m : ℕ). replicate m 0) (length-take-le n dst room ∙ is)
         in

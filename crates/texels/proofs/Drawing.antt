@@ -8,7 +8,8 @@ use lib.ListN.{length, get_or}
 use lib.Seq.{sets, length-sets}
 use native.Mathlib.Nat.{mul-le-mul, mul-le-mul_left}
 use Rattle.crn_format.specs.Grid.{blocks, little}
-use Rattle.crn_format.specs.Header.{Kind, block_bytes}
+use Rattle.crn_format.specs.declared.Kind.{Kind}
+use Rattle.crn_format.specs.Header.{block_bytes}
 use Rattle.crn_blocks.proofs.Places.{below_or, place, beside, sets_in, sets-out, no_less, further}
 use Rattle.bcn_rows.specs.Rows.{row_bytes, texel_of, row_of, texel_at}
 use Rattle.bcn_rows.specs.declared.Row.{Row}

@@ -50,14 +50,14 @@ module _ (format : ℕ) (s : Face) (bs d : List ℕ) {r : ℕ} {e : List ℕ} (a
     -- bytes that lie in no texel, between the rows and behind the last, stay put
     pub kept : (k : ℕ) → ((x y : ℕ) → In s x y → Within s x y k → ⊥) → get_or e k 0 ≡ get_or d k 0
     kept k out = ap (λ (l : List ℕ). get_or l k 0) is-drawn ∙ picture.drawn-kept s (rgba (kind_of format) s bs)
-        (fours (kind_of format) taken.there.format-known s bs) d k out
+        (fours (kind_of format) taken.there.kind_known s bs) d k out
 
     pub texel-there : {x y k : ℕ} → In s x y → k < 4
         → get_or e (texel_place s x y + k) 0 ≡ byte (channel (kind_of format) s bs x y k)
     unfolding rgba byte
     texel-there {x} {y} {k} at h =
         ap (λ (l : List ℕ). get_or l (texel_place s x y + k) 0) is-drawn
-        ∙ picture.drawn-there s (rgba (kind_of format) s bs) (fours (kind_of format) taken.there.format-known s bs)
+        ∙ picture.drawn-there s (rgba (kind_of format) s bs) (fours (kind_of format) taken.there.kind_known s bs)
         taken.fits at h d refl
         ∙ get_or-map byte (texel bs (kind_of format) (block_start (kind_of format) s x y) (4 * (y % 4) + x % 4)) k none
 

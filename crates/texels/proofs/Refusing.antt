@@ -10,7 +10,9 @@ use lib.ListN.{length}
 use lib.Dec.{ltb}
 use Rattle.crn_format.specs.Choice.{pick, not}
 use Rattle.crn_format.specs.Grid.{blocks}
-use Rattle.crn_format.specs.Header.{Kind, DXT1, DXT5, DXT5A, DXN, unknown, kind_of, known}
+use Rattle.crn_format.specs.declared.Kind.{Kind}
+use Rattle.crn_format.specs.declared.Kind.TheVariants.{DXT1, DXT5, DXT5A, DXN, Unknown}
+use Rattle.crn_format.specs.Header.{kind_of, known}
 use Rattle.crn_format.specs.Limits.{max_side}
 use Rattle.crn_format.proofs.Choices.{both_hold}
 use Rattle.bcn_format.specs.Blocks.{texel}
@@ -93,7 +95,7 @@ module _ (s : Face) (room : ℕ) (h : Sides s) (p : 4 * s.width ≤ s.pitch) (ro
 -- ---- where no refusal is due
 
 pub record Accepted (format : ℕ) (s : Face) (given room : ℕ) : Type 0 where
-  pub there : Given format s given
+  pub there : Given (kind_of format) s given
   pub fits : Room s room
 
 pub accepted : (format : ℕ) (s : Face) (given room : ℕ) → refusal format s given room ≡ 0 → Accepted format s given room
@@ -107,7 +109,7 @@ accepted format s given room e =
     let h = sides format s taken in
     record {
       there = record {
-        format-known = (both_hold (known (kind_of format)) _ taken).0;
+        kind_known = (both_hold (known (kind_of format)) _ taken).0;
         all = ltb-false given (enough (kind_of format) s)
             bytes.0;
       };
@@ -127,7 +129,7 @@ fours DXT1 e s bs x y = refl
 fours DXT5 e s bs x y = refl
 fours DXT5A e s bs x y = refl
 fours DXN e s bs x y = refl
-fours unknown e s bs x y = absurd (false≢true e)
+fours Unknown e s bs x y = absurd (false≢true e)
 
 -- ---- the answer
 
@@ -143,4 +145,4 @@ module _ {format : ℕ} {s : Face} (bs d : List ℕ) where
   drawn-there {n} is none p =
       let due : refusal format s (length bs) (length d) ≡ 0 = sym is ∙ none in
       let taken = accepted format s (length bs) (length d) due in
-      record { number = is; left = rw due (whole taken.fits (fours (kind_of format) taken.there.format-known s bs) p) }
+      record { number = is; left = rw due (whole taken.fits (fours (kind_of format) taken.there.kind_known s bs) p) }

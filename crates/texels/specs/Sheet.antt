@@ -1,7 +1,8 @@
 -- Which texels have been drawn, in the order of the blocks: a stretch is a row of a block, up to four texels.
 use Rattle.std.specs.Prelude.{ℕ, ◌+◌, ◌*◌, ◌/◌, ◌%◌, ◌≤◌, ◌<◌, true, ◌≡◌, ◌⊎◌, List, length, get_or}
 use Rattle.crn_format.specs.Grid.{blocks, little}
-use Rattle.crn_format.specs.Header.{kind_of, known}
+use Rattle.crn_format.specs.declared.Kind.{Kind}
+use Rattle.crn_format.specs.Header.{known}
 use Rattle.crn_format.specs.Limits.{max_side}
 use Rattle.bcn_format.specs.Picture.{texel_place, enough, reach}
 use Rattle.bcn_format.specs.declared.Face.{Face}
@@ -35,9 +36,9 @@ pub record Room (s : Face) (room : ℕ) : Type 0 where
   pub all : reach s ≤ room
 
 -- so many bytes are blocks enough, of a format that is known
-pub record Given (format : ℕ) (s : Face) (given : ℕ) : Type 0 where
-  pub format-known : known (kind_of format) ≡ true
-  pub all : enough (kind_of format) s ≤ given
+pub record Given (kind : Kind) (s : Face) (given : ℕ) : Type 0 where
+  pub kind_known : known kind ≡ true
+  pub all : enough kind s ≤ given
 
 -- a block of the face
 pub record Block (s : Face) (x y : ℕ) : Type 0 where

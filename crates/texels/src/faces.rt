@@ -3,7 +3,6 @@ ghost use Rattle.std.specs.Prelude.{◌≡◌, ◌+◌, ◌*◌, ◌≤◌, ◌<
 ghost use Rattle.crn_format.specs.Choice.{both};
 ghost use Rattle.crn_format.specs.Limits.{max_side};
 ghost use Rattle.crn_format.specs.Grid.{blocks as blocks_of};
-ghost use Rattle.crn_format.specs.Header.{kind_of};
 ghost use Rattle.bcn_format.specs.Picture.{rgba};
 ghost use Rattle.bcn_rows.specs.Rows.{texel_of, texel_at};
 ghost use Rattle.texels.specs.Sheet.{Drawn, Room, Given, Part, Block, stretch, first, in_block, in_row};
@@ -11,15 +10,13 @@ ghost use Rattle.texels.specs.Sheet.{Drawn, Room, Given, Part, Block, stretch, f
 use bcn_blocks::block_texels;
 use bcn_format::Face;
 use bcn_rows::{Row, Sixteen, put_row};
+use crn_format::Kind;
 
 // What is left of a side, at most a block's.
 fn side_left(n: usize) -> usize
     ensures { result ≡ min n 4 }
 {
-    if n < 4 {
-        return n;
-    }
-    4
+    n.min(4)
 }
 
 // A row of a block, of so many columns.
@@ -90,42 +87,38 @@ fn put_block(dst: &mut [u8], s: Face, x: usize, y: usize, r: Sixteen)
 }
 
 // A block, a row of blocks, and all of them.
-fn block(format: u32, dst: &mut [u8], blocks: &[u8], s: Face, x: usize, y: usize)
+fn block(kind: Kind, dst: &mut [u8], blocks: &[u8], s: Face, x: usize, y: usize)
     requires room { Room s (length dst.old) }
     requires block { Block s x y }
-    requires given { Given format s (length blocks.now) }
-    ensures { Drawn s (rgba (kind_of format) s blocks.now) (first s x y) (first s x y + 4)
+    requires given { Given kind s (length blocks.now) }
+    ensures { Drawn s (rgba kind s blocks.now) (first s x y) (first s x y + 4)
         dst.old dst.new }
 {
-    let r = block_texels(format, blocks, y * ((s.width + 3) / 4) + x);
+    let r = block_texels(kind, blocks, y * ((s.width + 3) / 4) + x);
     put_block(dst, s, x, y, r);
 }
 
-fn line(format: u32, dst: &mut [u8], blocks: &[u8], s: Face, y: usize)
+fn line(kind: Kind, dst: &mut [u8], blocks: &[u8], s: Face, y: usize)
     requires room { Room s (length dst.old) }
     requires y_in { y < blocks_of s.height }
-    requires given { Given format s (length blocks.now) }
-    ensures { Drawn s (rgba (kind_of format) s blocks.now) (first s 0 y) (first s 0 (y + 1))
+    requires given { Given kind s (length blocks.now) }
+    ensures { Drawn s (rgba kind s blocks.now) (first s 0 y) (first s 0 (y + 1))
         dst.old dst.new }
 {
     let columns = (s.width + 3) / 4;
-    let mut x = 0;
-    while x < columns {
-        block(format, dst, blocks, s, x, y);
-        x += 1;
+    for x in 0..columns {
+        block(kind, dst, blocks, s, x, y);
     }
 }
 
-pub fn face(format: u32, dst: &mut [u8], blocks: &[u8], s: Face)
+pub fn face(kind: Kind, dst: &mut [u8], blocks: &[u8], s: Face)
     requires room { Room s (length dst.old) }
-    requires given { Given format s (length blocks.now) }
-    ensures { Drawn s (rgba (kind_of format) s blocks.now) 0 (first s 0 (blocks_of s.height))
+    requires given { Given kind s (length blocks.now) }
+    ensures { Drawn s (rgba kind s blocks.now) 0 (first s 0 (blocks_of s.height))
         dst.old dst.new }
 {
     let rows = (s.height + 3) / 4;
-    let mut y = 0;
-    while y < rows {
-        line(format, dst, blocks, s, y);
-        y += 1;
+    for y in 0..rows {
+        line(kind, dst, blocks, s, y);
     }
 }

@@ -4,12 +4,14 @@
 
 ghost use Rattle.std.specs.Prelude.{◌≡◌};
 ghost use Rattle.crn_format.specs.Choice.{both};
-ghost use Rattle.crn_format.specs.Header.{kind_of, known};
+ghost use Rattle.crn_format.specs.Header.{known};
+ghost use Rattle.crn_format.specs.Refusals.{number_in};
 ghost use Rattle.bcn_format.specs.Picture.{side, refusal};
 ghost use Rattle.texels.specs.Answers.{Answered};
 
 use bcn_format::Face;
-use crn_formats::{MAX_SIDE, block_bytes, is_known};
+use crn_format::{Kind, Refusal};
+use crn_formats::MAX_SIDE;
 use faces::face;
 
 mod faces; // a face's blocks, put in their places
@@ -20,43 +22,41 @@ fn good_side(n: usize) -> bool
     (1 <= n) & (n <= MAX_SIDE as usize)
 }
 
-fn in_limits(format: u32, s: Face) -> bool
-    ensures { result ≡ both (known (kind_of format)) (both (side s.width) (side s.height)) }
+fn in_limits(kind: Kind, s: Face) -> bool
+    ensures { result ≡ both (known kind) (both (side s.width) (side s.height)) }
 {
-    is_known(format) & (good_side(s.width) & good_side(s.height))
+    kind.is_known() & (good_side(s.width) & good_side(s.height))
 }
 
-// The refusal that is due, or 0. The room is tested by a division, so that no product can overflow.
-fn refusal_of(format: u32, s: Face, given: usize, room: usize) -> u32
-    ensures { result ≡ refusal format s given room }
+// The refusal that is due. The room is tested by a division, so that no product can overflow.
+fn check(format: u32, s: Face, given: usize, room: usize) -> Result<(), Refusal>
+    ensures { number_in result ≡ refusal format s given room }
 {
-    if !in_limits(format, s) {
-        return 2;
+    let kind = Kind::from(format);
+    if !in_limits(kind, s) {
+        return Err(Refusal::BeyondLimits);
     }
     if s.pitch < 4 * s.width {
-        return 18;
+        return Err(Refusal::ShortPitch);
     }
-    if given < block_bytes(format) as usize * (((s.width + 3) / 4) * ((s.height + 3) / 4)) {
-        return 28;
+    if given < kind.block_bytes() as usize * (((s.width + 3) / 4) * ((s.height + 3) / 4)) {
+        return Err(Refusal::FewBlocks);
     }
     if room < 4 * s.width {
-        return 12;
+        return Err(Refusal::NoRoom);
     }
     if (room - 4 * s.width) / s.pitch < s.height - 1 {
-        return 12;
+        return Err(Refusal::NoRoom);
     }
-    0
+    Ok(())
 }
 
 // The texels of one face's tightly packed blocks, four bytes each: red, green, blue, alpha. Rows are a pitch apart, and what lies beyond
 // the face's size is left out.
-pub fn texels(format: u32, s: Face, blocks: &[u8], dst: &mut [u8]) -> u32
-    ensures { Answered format s blocks.now dst.old result dst.new }
+pub fn texels(format: u32, s: Face, blocks: &[u8], dst: &mut [u8]) -> Result<(), Refusal>
+    ensures { Answered format s blocks.now dst.old (number_in result) dst.new }
 {
-    let r = refusal_of(format, s, blocks.len(), dst.len());
-    if r != 0 {
-        return r;
-    }
-    face(format, dst, blocks, s);
-    r
+    check(format, s, blocks.len(), dst.len())?;
+    face(Kind::from(format), dst, blocks, s);
+    Ok(())
 }

@@ -10,5 +10,8 @@ use bcn_format::Face;
 pub fn crunch_texels(format: u32, face: Face, blocks: &[u8], rgba: &mut [u8]) -> u32
     ensures { Answered format face blocks.now rgba.old result rgba.new }
 {
-    texels::texels(format, face, blocks, rgba)
+    match texels::texels(format, face, blocks, rgba) {
+        Ok(()) => 0,
+        Err(refusal) => refusal.into(),
+    }
 }

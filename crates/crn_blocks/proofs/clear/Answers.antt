@@ -1,43 +1,38 @@
+-- The faces, their rows, and a row's bytes at once.
+use Prim.Native.Nat.{◌+◌, ◌*◌, ◌≤◌}
 use mathlib.Core.Path.{◌≡◌, refl, ap, ◌∙◌}
 use native.Mathlib.Numerals.{add-one}
 use native.Mathlib.Omega.{arith}
 use lib.ListN.{length}
-use Rattle.crn_format.specs.Grid.{painted, face_painted, blank}
-use Rattle.crn_blocks.proofs.Places.{room-kept}
-use Rattle.crn_blocks.proofs.Bytes.{painted-length}
+use Rattle.crn_format.specs.Grid.{painted, face_painted, row_painted, blank}
+use Rattle.crn_blocks.proofs.Places.{row_ends}
+use Rattle.crn_blocks.proofs.Putting.{row_blank}
+use Rattle.crn_blocks.proofs.Counting.{place-first}
 use Rattle.crn_blocks.proofs.clear.Goals as goal
 
 pub loop-face-init : goal.loop-face-init
 unfolding painted
-loop-face-init c = (omega arith, refl)
+loop-face-init c = refl
 
-pub clear_face-requires : goal.clear_face-requires
-clear_face-requires c =
-    let a = c.args in
-    record {
-      room = room-kept c.requires (ap length c.loop-face.invariant.1 ∙ painted-length a.g (blank a.g) c.loop-face.face a.dst.now);
-      face_in = omega (arith, c.loop-face-test.true);
-    }
+pub loop-y-init : goal.loop-y-init
+unfolding face_painted
+loop-y-init c = c.loop-face.invariant
 
-pub overflow_add-face : goal.overflow_add-face
-overflow_add-face c = omega (arith, c.loop-face-test.true, c.requires.few_faces)
-
-pub loop-face-smaller : goal.loop-face-smaller
-loop-face-smaller c = omega (arith, c.loop-face-test.true)
+pub loop-y-preserved : goal.loop-y-preserved
+unfolding face_painted
+loop-y-preserved c =
+    let g = c.args.g in
+    let face = c.loop-face.face in
+    let y = c.loop-y.y in
+    let fits : face * g.distance + y * g.pitch + g.columns * g.bytes ≤ length c.loop-y.dst = omega (
+      arith,
+      row_ends c.requires c.loop-face-test.true c.loop-y-test.true,
+    ) in
+    rw add-one (row_blank g face y c.loop-y.dst c.fill.new.self _ _ (place-first g face y) (omega arith) (omega (arith, fits))
+    (c.fill.ensures.after (λ _ e. e)) ∙ ap (row_painted g (blank g) face y g.columns) c.loop-y.invariant)
 
 pub loop-face-preserved : goal.loop-face-preserved
 unfolding painted
 loop-face-preserved c =
-    let a = c.args in (
-      omega (arith, c.loop-face-test.true),
-      c.clear_face.ensures ∙ rw add-one (ap (face_painted a.g (blank a.g) c.loop-face.face a.g.rows) c.loop-face.invariant.1),
-    )
-
-pub shape_of-dst : goal.shape_of-dst
-shape_of-dst c = let a = c.args in ap length c.loop-face.invariant.1 ∙ painted-length a.g (blank a.g) c.loop-face.face a.dst.now
-
-pub returns : goal.returns
-returns c =
-    let a = c.args in
-    let full : c.loop-face.face ≡ a.g.faces = omega (arith, c.loop-face.invariant.0, c.loop-face-test.false) in
-    c.loop-face.invariant.1 ∙ ap (λ face. painted a.g (blank a.g) face a.dst.now) full
+    let whole : c.loop-y.y ≡ c.args.g.rows = omega arith in
+    rw (add-one, ← whole) c.loop-y.invariant

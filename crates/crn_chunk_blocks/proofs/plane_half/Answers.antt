@@ -4,16 +4,16 @@ use Rattle.crn_chunk_blocks.proofs.plane_half.Goals as goal
 
 pub alpha_half-requires : goal.alpha_half-requires
 unfolding shade_of
-alpha_half-requires c = rw c.if-of_alpha.true at c.requires
+alpha_half-requires c = rw c.if-p.true at c.requires
 
-pub returns-then-of_alpha : goal.returns-then-of_alpha
+pub returns-then-p : goal.returns-then-p
 unfolding shade_of
-returns-then-of_alpha c = rw c.if-of_alpha.true c.alpha_half.ensures
+returns-then-p c = rw c.if-p.true c.alpha_half.ensures
 
 pub color_half-requires : goal.color_half-requires
 unfolding shade_of
-color_half-requires c = rw c.if-of_alpha.false at c.requires
+color_half-requires c = rw c.if-p.false at c.requires
 
-pub returns : goal.returns
+pub returns-else-p : goal.returns-else-p
 unfolding shade_of
-returns c = rw c.if-of_alpha.false c.color_half.ensures
+returns-else-p c = rw c.if-p.false c.color_half.ensures

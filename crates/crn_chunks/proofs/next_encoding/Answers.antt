@@ -1,52 +1,56 @@
 -- The next encoding.
-use Prim.Native.Nat.{◌<◌}
-use mathlib.Core.Path.{sym, ap, ◌∙◌}
+use mathlib.Core.Path.{sym}
 use native.Mathlib.Omega.{arith}
 use Rattle.crn_format.specs.Reading.{budgeted, from_bits}
-use Rattle.crn_symbol_codec.specs.Cursors.{Holds}
 use Rattle.crn_chunks.specs.Meaning.{source, spending}
-use Rattle.crn_chunks.specs.Parts.{drew, farthest}
-use Rattle.crn_chunks.proofs.Drawing.{when_drew}
+use Rattle.crn_format.proofs.Results.{passed}
 use Rattle.crn_chunks.proofs.Encoding.{pending-two, pending-one, code_lost, code-far, code_got}
 use Rattle.crn_chunks.proofs.next_encoding.Goals as goal
 
 pub returns-then-pending-ge64 : goal.returns-then-pending-ge64
-returns-then-pending-ge64 c = record {
-  same = λ cs k. sym (pending-two (source c.args.seg.now) (cs 0) (spending c.args.s) c.args.pending
-      c.if-pending-ge64.true);
-  on = (c.requires.holds, omega arith);
-}
-
-pub returns-then-pending-ge8 : goal.returns-then-pending-ge8
-returns-then-pending-ge8 c = record {
-  same = λ cs k. sym (pending-one (source c.args.seg.now) (cs 0) (spending c.args.s) c.args.pending
-      c.if-pending-ge8.true c.if-pending-ge64.false);
-  on = (c.requires.holds, omega arith);
-}
-
-pub take-requires : goal.take-requires
-take-requires c = record { ready = c.requires; which_in = c.requires.served.some }
-
-pub returns-then-v-lt1024 : goal.returns-then-v-lt1024
-returns-then-v-lt1024 c =
-    let e = c.in-Got.is in
+returns-then-pending-ge64 c =
+    let a = c.args in
     record {
-      same = λ cs k. sym (code_got (source c.args.seg.now) (cs 0) (spending c.args.s) c.args.pending c.if-pending-ge8.false
-          (sym (c.take.ensures.same cs k) ∙ ap (drew (λ v. v)) e) c.if-v-lt1024.true);
-      on = ((when_drew (λ v t. Holds c.args.seg.now t.cursor × (v < farthest)) c.take.ensures.on e).0, omega arith);
+      same = λ cs k. sym (pending-two (source a.supply.now.seg.now) (cs 0) (spending a.s) a.pending c.if-pending-ge64.true);
+      on = (c.requires.holds, omega arith);
     }
 
-pub returns-in-Lost : goal.returns-in-Lost
-returns-in-Lost c = record {
-  same = λ cs k. sym (code_lost (source c.args.seg.now) (cs 0) (spending c.args.s) c.args.pending
-      c.if-pending-ge8.false (sym (c.take.ensures.same cs k) ∙ ap (drew (λ v. v)) c.in-Lost.is));
-  on = tt;
-}
+pub returns-then-pending-ge8 : goal.returns-then-pending-ge8
+returns-then-pending-ge8 c =
+    let a = c.args in
+    record {
+      same = λ cs k.
+          sym (pending-one (source a.supply.now.seg.now) (cs 0) (spending a.s) a.pending c.if-pending-ge8.true c.if-pending-ge64.false);
+      on = (c.requires.holds, omega arith);
+    }
 
-pub returns-else-v-lt1024 : goal.returns-else-v-lt1024
+pub returns-in_err-v : goal.returns-in_err-v
+returns-in_err-v c =
+    let a = c.args in
+    let t = c.in_err-v.ensures in
+    rw (passed c.from_residual.ensures.1) (record {
+      same = λ cs k.
+          sym (code_lost (source a.supply.now.seg.now) (cs 0) (spending a.s) a.pending c.if-pending-ge8.false (sym (t.same cs k)));
+      on = tt;
+    })
+
+pub returns-then-v-ge1024 : goal.returns-then-v-ge1024
 unfolding budgeted from_bits
-returns-else-v-lt1024 c = record {
-  same = λ cs k. sym (code-far (source c.args.seg.now) (cs 0) (spending c.args.s) c.args.pending
-      c.if-pending-ge8.false (sym (c.take.ensures.same cs k) ∙ ap (drew (λ v. v)) c.in-Got.is) c.if-v-lt1024.false);
-  on = tt;
-}
+returns-then-v-ge1024 c =
+    let a = c.args in
+    let t = c.in_ok-v.ensures in
+    rw c.blamed.ensures (record {
+      same = λ cs k. sym (code-far (source a.supply.now.seg.now) (cs 0) (spending a.s) a.pending c.if-pending-ge8.false (sym (t.same cs k))
+          c.if-v-ge1024.true);
+      on = tt;
+    })
+
+pub returns : goal.returns
+returns c =
+    let a = c.args in
+    let t = c.in_ok-v.ensures in
+    record {
+      same = λ cs k. sym (code_got (source a.supply.now.seg.now) (cs 0) (spending a.s) a.pending c.if-pending-ge8.false (sym (t.same cs k))
+          c.if-v-ge1024.false);
+      on = (t.on.0, omega arith);
+    }

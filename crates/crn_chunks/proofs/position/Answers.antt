@@ -1,40 +1,25 @@
 -- The selector indices at a position.
-use Rattle.crn_chunks.proofs.Picking.{picks_lost, picks_holds, picks_one, picks_then_lost, picks_two}
+use Rattle.crn_format.proofs.Results.{passed}
+use Rattle.crn_chunks.proofs.Picking.{picks_lost, picks_one, picks_then_lost, picks_two}
 use Rattle.crn_chunks.proofs.position.Goals as goal
 
-pub index-requires : goal.index-requires
-index-requires c = record {
-  ready = c.requires.ready;
-  which_in = c.requires.ready.served.first.sels;
-  size_in =
-      c.requires.ready.served.small.0.selectors;
-  i_in = c.requires.symbols_in.0;
-}
+pub returns-in_err-i : goal.returns-in_err-i
+returns-in_err-i c =
+    let a = c.args in
+    rw (passed c.from_residual.ensures.1) (picks_lost a.supply.now.planes a.inside a.s0 a.s1 c.in_err-i.ensures)
 
-pub index-requires-then-two : goal.index-requires-then-two
-index-requires-then-two c = record {
-  ready = record {
-    short = c.requires.ready.short;
-    served = c.requires.ready.served;
-    holds = picks_holds
-        c.args.ps c.args.inside c.args.s0 c.args.s1 c.index.ensures c.in-Got.is;
-  };
-  which_in = c.requires.ready.served.second.sels;
-  size_in =
-      c.requires.ready.served.small.1.selectors;
-  i_in = c.requires.symbols_in.1;
-}
+pub returns-then-not-supply : goal.returns-then-not-supply
+returns-then-not-supply c =
+    let a = c.args in
+    picks_one a.supply.now.planes a.inside a.s0 a.s1 c.in_ok-i.ensures c.if-not-supply.true
 
-pub returns-in-Lost : goal.returns-in-Lost
-returns-in-Lost c = picks_lost c.args.ps c.args.inside c.args.s0 c.args.s1 c.index.ensures c.in-Lost.is
+pub returns-in_err-j : goal.returns-in_err-j
+returns-in_err-j c =
+    let a = c.args in
+    rw (passed c.from_residual-in_err-j.ensures.1)
+    (picks_then_lost a.supply.now.planes a.inside a.s0 a.s1 c.in_ok-i.ensures c.if-not-supply.false c.in_err-j.ensures)
 
-pub returns-in-Lost-index : goal.returns-in-Lost-index
-returns-in-Lost-index c = picks_then_lost c.args.ps c.args.inside c.args.s0 c.args.s1 c.index.ensures c.in-Got.is c.if-two.true
-    c.index-then-two.ensures c.in-Lost-index.is
-
-pub returns-in-Got-index : goal.returns-in-Got-index
-returns-in-Got-index c = picks_two c.args.ps c.args.inside c.args.s0 c.args.s1 c.index.ensures c.in-Got.is c.if-two.true
-    c.index-then-two.ensures c.in-Got-index.is
-
-pub returns-else-two : goal.returns-else-two
-returns-else-two c = picks_one c.args.ps c.args.inside c.args.s0 c.args.s1 c.index.ensures c.in-Got.is c.if-two.false
+pub returns : goal.returns
+returns c =
+    let a = c.args in
+    picks_two a.supply.now.planes a.inside a.s0 a.s1 c.in_ok-i.ensures c.if-not-supply.false c.in_ok-j.ensures

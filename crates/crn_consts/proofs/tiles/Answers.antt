@@ -1,30 +1,29 @@
--- The tiles of an encoding: the two numbers have the definition's list.
+-- The tiles of an encoding: the table's bytes are the definition's list.
 use Prim.Native.Nat.{ℕ, ◌+◌, ◌*◌, ◌/◌, ◌%◌, ◌<◌}
 use mathlib.Core.Path.{◌≡◌}
+use mathlib.Core.List.{List}
 use native.Mathlib.Omega.{arith}
 use lib.Dec.{T, eqb}
 use lib.ListN.{length, get_or}
 use Rattle.crn_format.specs.Level.{tile_map, tile_at}
 use Rattle.crn_consts.specs.Tiles.{tile_in}
-use Rattle.crn_consts.proofs.Packed.{digit, up_to, computed}
+use Rattle.crn_consts.specs.Entries.{Entry}
+use Rattle.crn_consts.proofs.Table.{below}
+use Rattle.crn_consts.proofs.Packed.{up_to, computed}
 use Rattle.crn_consts.proofs.tiles.Goals as goal
 
--- the byte of an encoding, by its upper and its lower tiles
-abbrev byte_of : ℕ → ℕ → ℕ → ℕ
-byte_of m n e = digit 4 m e + 16 * digit 4 n e
-
 -- entry i of the list is number i % 4 of byte number i / 4
-abbrev entry_of : ℕ → ℕ → ℕ → ℕ
-entry_of m n i = tile_in (byte_of m n (i / 4)) (i % 4)
+abbrev entry_of : List ℕ → ℕ → ℕ
+entry_of bytes i = tile_in (get_or bytes (i / 4) 0) (i % 4)
 
-tile_is : (m n e q : ℕ) → T (up_to (λ i. eqb (entry_of m n i) (get_or tile_map i 0)) (length tile_map)) → e < 8 → q < 4 → tile_in
-    (byte_of m n e) q ≡ tile_at e q
+tile_is : {bytes : List ℕ} {e r : ℕ} (q : ℕ) → Entry bytes e r
+    → T (up_to (λ i. eqb (entry_of bytes i) (get_or tile_map i 0)) (length tile_map)) → e < 8 → q < 4 → tile_in r q ≡ tile_at e q
 unfolding tile_map
-tile_is m n e q t he hq =
+tile_is {bytes} {e} q b t he hq =
     let row : (4 * e + q) / 4 ≡ e = omega arith in
     let column : (4 * e + q) % 4 ≡ q = omega arith in
-    rw (row, column) at (computed (entry_of m n) tile_map (4 * e + q) t (omega arith))
+    rw (b.value) (rw (row, column) at (computed (entry_of bytes) tile_map (4 * e + q) t (omega arith)))
 
 pub returns : goal.returns
 unfolding tile_map
-returns c = record { each = λ q four. tile_is _ _ c.args.encoding q tt c.requires four; small = omega arith }
+returns c = record { each = λ q four. tile_is q c.entry.ensures tt c.requires four; small = below 256 c.entry.ensures tt }

@@ -1,28 +1,36 @@
-use Rattle.std.proofs.Common.{◌-◌, refl, arith}
-use Rattle.crn_format.specs.Palettes.{alpha_sums, alpha_word}
-use Rattle.crn_palettes.proofs.Entering.{filling_none, filling_more, filling_refused, filling_done}
+use Rattle.std.proofs.Common.{refl, arith, length-append, length-drop}
+use Rattle.std.proofs.Math.ListN.{length-set}
+use lib.Seq.{length-take-le}
+use Rattle.crn_palettes.proofs.Entering.{filling_none, filling_more, filling_failed, filling_front}
+use Rattle.crn_endpoints.proofs.Summing.{alpha-adds}
 use Rattle.crn_endpoints.proofs.alpha_words.Goals as goal
 
-pub loop-i-init : goal.loop-i-init
-loop-i-init c = filling_none _ _ _ _ _ _ _ _ c.requires.holds
+pub loop-word-init : goal.loop-word-init
+loop-word-init c = (filling_none _ _ _ _ _ _ _ _ c.requires.holds, refl)
 
-pub alpha_sums-requires : goal.alpha_sums-requires
-alpha_sums-requires c = record { holds = c.loop-i.invariant.holds; seg_long = c.requires.seg_long; some_code = c.requires.some_code }
+pub summed-requires : goal.summed-requires
+summed-requires c = record {
+  holds = c.loop-word.invariant.0.holds;
+  seg_long = c.requires.seg_long;
+  some_sums = record { sums = _; adds = alpha-adds _ c.requires.some_code.decodes };
+  as_many = c.loop-word.invariant.1;
+}
 
-pub bounds-out-i : goal.bounds-out-i
-bounds-out-i c = omega (arith, c.loop-i.invariant.written.long)
+pub loop-word-preserved : goal.loop-word-preserved
+loop-word-preserved c =
+    let l = length-take-le _ _ c.requires.count_in in (
+      filling_more c.loop-word.invariant.0 (omega (arith, l)) (λ t d b. c.in-Ok.ensures.reads _ (alpha-adds _ d) b)
+          c.requires.some_code.decodes refl c.alpha_word.ensures (omega arith) refl,
+      omega arith,
+    )
 
-pub loop-i-preserved : goal.loop-i-preserved
-loop-i-preserved c =
-    filling_more c.loop-i.invariant c.loop-i-test.true c.alpha_sums.ensures c.requires.some_code.decodes c.in-To.is c.alpha_word.ensures
-    (omega (arith, c.loop-i.invariant.written.long)) refl
-
-pub returns-in-Refused : goal.returns-in-Refused
-returns-in-Refused c =
-    filling_refused c.loop-i.invariant c.loop-i-test.true c.alpha_sums.ensures c.in-Refused.is c.clear16.ensures
-
-pub shape_of-out : goal.shape_of-out
-shape_of-out c = c.loop-i.invariant.written.long
+pub returns-in-Err : goal.returns-in-Err
+returns-in-Err c =
+    let l = length-take-le _ _ c.requires.count_in in
+    filling_failed c.loop-word.invariant.0 (omega (arith, l)) (λ t d b. c.in-Err.ensures.reads _ (alpha-adds _ d) b) _ refl
+    (simp (length-append, length-set, length-drop) (omega (arith, l)))
 
 pub returns : goal.returns
-returns c = filling_done c.loop-i.invariant (omega arith)
+returns c =
+    let l = length-take-le _ _ c.requires.count_in in
+    filling_front c.loop-word.invariant.0 (omega (arith, l)) (omega (arith, l)) (omega (arith, l)) refl

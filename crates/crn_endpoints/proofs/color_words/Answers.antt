@@ -1,43 +1,39 @@
-use Rattle.std.proofs.Common.{◌-◌, refl, arith}
-use Rattle.crn_format.specs.Palettes.{color_sums, color_word}
-use Rattle.crn_endpoints.proofs.Summing.{small-zeros}
-use Rattle.crn_palettes.proofs.Entering.{filling_none, filling_more, filling_refused, filling_done}
+use Rattle.std.proofs.Common.{refl, arith, length-append, length-drop}
+use Rattle.std.proofs.Math.ListN.{length-set}
+use lib.Seq.{length-take-le}
+use Rattle.crn_palettes.proofs.Entering.{filling_none, filling_more, filling_failed, filling_front}
+use Rattle.crn_endpoints.proofs.Summing.{color-adds, small-six}
 use Rattle.crn_endpoints.proofs.color_words.Goals as goal
 
-pub loop-i-init : goal.loop-i-init
-loop-i-init c = (filling_none _ _ _ _ _ _ _ _ c.requires.holds, small-zeros 6)
+pub loop-word-init : goal.loop-word-init
+loop-word-init c = (filling_none _ _ _ _ _ _ _ _ c.requires.holds, refl)
 
-pub color_sums-requires : goal.color_sums-requires
-color_sums-requires c = record {
-  holds = c.loop-i.invariant.0.holds;
+pub summed-requires : goal.summed-requires
+summed-requires c = record {
+  holds = c.loop-word.invariant.0.holds;
   seg_long = c.requires.seg_long;
-  code_5 = c.requires.code_5;
-  code_6 =
-      c.requires.code_6;
-  small = c.loop-i.invariant.1;
+  some_sums = record { sums = _; adds = color-adds _ _ {t = _} (c.requires.code_5.decodes, c.requires.code_6.decodes) };
+  as_many = c.loop-word.invariant.1;
 }
 
-pub color_word-requires : goal.color_word-requires
-color_word-requires c = c.color_sums.ensures.1
+pub loop-word-preserved : goal.loop-word-preserved
+loop-word-preserved c =
+    let l = length-take-le _ _ c.requires.count_in in (
+      filling_more c.loop-word.invariant.0 (omega (arith, l)) (λ t d b. c.in-Ok.ensures.reads _ (color-adds _ _ d) b)
+          (c.requires.code_5.decodes, c.requires.code_6.decodes) refl c.color_word.ensures (omega arith) refl,
+      omega arith,
+    )
 
-pub bounds-out-i : goal.bounds-out-i
-bounds-out-i c = omega (arith, c.loop-i.invariant.0.written.long, c.requires.count_in)
-
-pub loop-i-preserved : goal.loop-i-preserved
-loop-i-preserved c = (
-  filling_more c.loop-i.invariant.0 c.loop-i-test.true c.color_sums.ensures.0 (c.requires.code_5.decodes, c.requires.code_6.decodes)
-      c.in-To.is c.color_word.ensures
-      (omega (arith, c.loop-i.invariant.0.written.long, c.requires.count_in))
-      refl,
-  c.color_sums.ensures.1,
-)
-
-pub returns-in-Refused : goal.returns-in-Refused
-returns-in-Refused c =
-    filling_refused c.loop-i.invariant.0 c.loop-i-test.true c.color_sums.ensures.0 c.in-Refused.is c.clear32.ensures
-
-pub shape_of-out : goal.shape_of-out
-shape_of-out c = c.loop-i.invariant.0.written.long
+pub returns-in-Err : goal.returns-in-Err
+returns-in-Err c =
+    let l = length-take-le _ _ c.requires.count_in in
+    filling_failed c.loop-word.invariant.0 (omega (arith, l)) (λ t d b. c.in-Err.ensures.reads _ (color-adds _ _ d) b) _ refl
+    (simp (length-append, length-set, length-drop) (omega (arith, l)))
 
 pub returns : goal.returns
-returns c = filling_done c.loop-i.invariant.0 (omega arith)
+returns c =
+    let l = length-take-le _ _ c.requires.count_in in
+    filling_front c.loop-word.invariant.0 (omega (arith, l)) (omega (arith, l)) (omega (arith, l)) refl
+
+pub color_word-requires : goal.color_word-requires
+color_word-requires c = small-six _ (omega arith) (c.in-Ok.ensures.keeps)

@@ -1,5 +1,6 @@
+-- The offsets of all levels, one more at each turn.
 use Prim.Native.Nat.{ℕ, suc, ◌+◌, ◌-◌, ◌<◌}
-use mathlib.Core.Path.{◌≡◌, refl, sym, ◌∙◌}
+use mathlib.Core.Path.{◌≡◌, sym, ◌∙◌}
 use mathlib.Core.List.{List, ◌++◌, append_assoc, append-nil}
 use native.Mathlib.Omega.{arith}
 use native.Mathlib.Numerals.{add-one}
@@ -17,19 +18,13 @@ more file levels a i v h l e =
     let n : max_levels - i ≡ suc (max_levels - (i + 1)) = omega arith in
     rw (n, e, add-one, take-suc-set, append_assoc)
 
-pub loop-i-init : goal.loop-i-init
-loop-i-init c = (omega arith, (refl, refl))
-
 pub loop-i-preserved : goal.loop-i-preserved
 loop-i-preserved c =
     let s = c.args in
     let w = c.loop-i in (
-      omega arith,
-      (
-        simp length-set w.invariant.1.0,
-        more s.file.now s.levels w.a w.i c.offset_at.result (omega arith) (omega arith)
-            c.offset_at.ensures ∙ w.invariant.1.1,
-      ),
+      simp length-set w.invariant.0,
+      more s.file.now s.levels w.offset-items w.i c.offset_at.result (omega arith) (omega arith)
+          c.offset_at.ensures ∙ w.invariant.1,
     )
 
 pub returns : goal.returns
@@ -37,4 +32,4 @@ unfolding offsets_from
 returns c =
     let w = c.loop-i in
     let e : w.i ≡ max_levels = omega arith in
-    sym (take_all max_levels w.a (omega arith)) ∙ sym (append-nil _) ∙ rw e at w.invariant.1.1
+    sym (take_all max_levels w.offset-items (omega arith)) ∙ sym (append-nil _) ∙ rw e at w.invariant.1

@@ -3,7 +3,7 @@ use Prim.Native.Nat.{◌*◌, ◌-◌, ◌≤◌}
 use mathlib.Core.Path.{◌≡◌}
 use lib.ListN.{length}
 use Rattle.crn_format.specs.declared.Tables.{Tables}
-use Rattle.crn_formats.specs.Lent.{lent_of}
+use Rattle.crn_formats.specs.Lent.{lent}
 use Rattle.crn_drawing.specs.Levels.{record_with, Made}
 use Rattle.crn_levels.specs.Several.{begun, several_from}
 use Rattle.crn_sizes.proofs.Counts.{most_cutouts}
@@ -11,14 +11,15 @@ use Rattle.crn_levels.proofs.Steps.{far}
 use Rattle.crn_levels.proofs.levels_by.Given as goal
 
 abbrev pub invariant-loop-level : goal.invariant-loop-level
-invariant-loop-level l = (l.first ≤ l.level) × ((l.from ≤ length l.dst) ×
-    ((length l.dst ≡ length l.initial.dst) × ((l.budget ≤ l.all) × ((l.cutouts ≤ most_cutouts * (l.level - l.first))
-    × ((t : Tables) → Made (record_with l.h t) l.s l.lookup l.sorted
-    → several_from (l.h.levels - l.level) (record_with l.h t) l.file
-    (lent_of l.color_endpoints l.color_selectors l.alpha_endpoints l.alpha_selectors)
-    (far l.first l.level l.from l.all l.budget l.cutouts) l.dst
-    ≡ several_from (l.h.levels - l.first) (record_with l.h t) l.file
-    (lent_of l.color_endpoints l.color_selectors l.alpha_endpoints l.alpha_selectors) (begun l.first l.all) l.initial.dst)))))
-
-abbrev pub decreases-loop-level : goal.decreases-loop-level
-decreases-loop-level l = l.h.levels - l.level
+invariant-loop-level l = record {
+  within : l.level - l.first ≤ l.h.levels - l.first;
+  place : l.from ≤ length l.dst;
+  long : length l.dst ≡ length l.initial.dst;
+  left : l.budget ≤ l.all;
+  cut : l.cutouts ≤ most_cutouts * (l.level - l.first);
+  goes : (t : Tables) → Made (record_with l.h t) l.made.sizes l.made.lookup.now l.made.sorted.now
+      → several_from (l.h.levels - l.level) (record_with l.h t) l.file
+      (lent l.palettes) (far l.first l.level l.from l.all l.budget l.cutouts) l.dst
+      ≡ several_from (l.h.levels - l.first) (record_with l.h t) l.file
+      (lent l.palettes) (begun l.first l.all) l.initial.dst;
+}

@@ -1,13 +1,11 @@
--- Eight symbols change the pairs. The invariant: what is left of them, run from here, ends as all of them do, and the pairs so far are written.
-use Prim.Native.Nat.{ℕ, ◌*◌, ◌-◌}
-use mathlib.Core.Bool.{Bool}
-use mathlib.Core.List.{List}
+-- Eight symbols change the pairs. The invariant: what is left of them, run from here, ends as all of them do, and the pairs so far are
+-- written.
+use Rattle.std.proofs.Common.{ℕ, ◌*◌, Bool, List}
 use Rattle.crn_format.specs.Reading.{run, from_bits, spot}
 use Rattle.crn_format.specs.Palettes.{changed}
 use Rattle.crn_symbol_codec.specs.Cursors.{place, Holds}
 use Rattle.crn_symbol_codec.specs.Decoders.{Decodes}
 use Rattle.crn_symbol_codec.specs.declared.Cursor.{Cursor}
-use Rattle.crn_palettes.specs.Reaching.{cursor_at}
 use Rattle.crn_selectors.specs.Selectors.{top_of, bits_of, values_of, Pairs}
 use Rattle.crn_selectors.proofs.Changing.{Changed}
 use Rattle.crn_selectors.proofs.Packing.{Packed}
@@ -22,9 +20,6 @@ pub record State (alpha : Bool) (lookup sorted seg : List ℕ) (c : Cursor) (bef
     pub changes : (t : List ℕ) → Decodes t lookup sorted → (b : ℕ) → Changed seg (top_of alpha) t j (values_of pairs) at
         (run (from_bits seg) (changed (top_of alpha) t 8 0 (values_of before)) (spot (place c) b))
 
-abbrev pub invariant-loop-j : goal.invariant-loop-j
-invariant-loop-j l = State l.alpha l.lookup l.sorted l.seg (cursor_at l.bits0 l.have0 l.next0) l.initial.states l.states
-    (cursor_at l.bits l.have l.next) l.word l.shift l.j
-
-abbrev pub decreases-loop-j : goal.decreases-loop-j
-decreases-loop-j l = 8 - l.j
+abbrev pub invariant-loop-pair : goal.invariant-loop-pair
+invariant-loop-pair g l = State g.K.Kind.alpha l.fn.code.lookup.now l.fn.code.sorted.now l.seg l.fn.c l.initial.pairs l.pairs l.at l.word
+    l.shift l.pair-index

@@ -15,7 +15,7 @@ offset_bounds-entries-i c =
 pub bounds-entries-i : goal.bounds-entries-i
 bounds-entries-i c =
     let some : Enough c.args.seg.now c.args.c 16 = λ few. omega (arith, c.if-c-lt16.false) in
-    omega (arith, in_entries c.requires.holds some c.requires.usable, entries-length c.args.lookup.now)
+    omega (arith, in_entries c.requires.holds some c.requires.usable, entries-length c.args.code.lookup.now)
 
 pub overflow_sub-have : goal.overflow_sub-have
 overflow_sub-have c =

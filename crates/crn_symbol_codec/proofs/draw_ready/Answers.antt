@@ -5,8 +5,8 @@ use Rattle.crn_symbol_codec.proofs.Drawing.{found-length, found-ended, found-dra
 use Rattle.crn_symbol_codec.proofs.Taking.{takes-symbol}
 use Rattle.crn_symbol_codec.proofs.draw_ready.Goals as goal
 
-pub returns-then-c-lookup : goal.returns-then-c-lookup
-returns-then-c-lookup c =
+pub returns-then-c-code : goal.returns-then-c-code
+returns-then-c-code c =
     let r = none-short c.requires.holds c.requires.enough c.requires.usable (sym c.entry-e.ensures ∙ c.if-e-eq0.true) (omega arith) in
     ((λ ls d. takes-symbol r d), r.near)
 

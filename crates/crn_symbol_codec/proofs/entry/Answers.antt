@@ -8,7 +8,7 @@ pub offset_bounds-entries-i : goal.offset_bounds-entries-i
 offset_bounds-entries-i c = omega (arith, within-entries c.requires c.args.bits c.ranges.bits.fits)
 
 pub bounds-entries-i : goal.bounds-entries-i
-bounds-entries-i c = omega (arith, within-entries c.requires c.args.bits c.ranges.bits.fits, entries-length c.args.lookup.now)
+bounds-entries-i c = omega (arith, within-entries c.requires c.args.bits c.ranges.bits.fits, entries-length c.args.code.lookup.now)
 
 pub long_entry-requires : goal.long_entry-requires
 long_entry-requires c =

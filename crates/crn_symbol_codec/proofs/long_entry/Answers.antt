@@ -68,7 +68,7 @@ pub returns-then-v-first : goal.returns-then-v-first
 returns-then-v-first c =
     ap (λ (y : _). 64 * y + (c.loop-k.k + 1)) c.symbol.ensures.0
     ∙ long-found c.requires.usable c.loop-k.invariant _ _ (omega arith)
-    (window c.args.lookup.now c.args.sorted.now c.args.bits c.loop-k.k c.requires.usable (omega arith)) refl (omega arith)
+    (window c.args.code.lookup.now c.args.code.sorted.now c.args.bits c.loop-k.k c.requires.usable (omega arith)) refl (omega arith)
 
 pub overflow_add-first-in-loop-k : goal.overflow_add-first-in-loop-k
 overflow_add-first-in-loop-k c = omega (
@@ -94,7 +94,7 @@ overflow_add-offset-in-loop-k c = omega (
 pub loop-k-preserved : goal.loop-k-preserved
 loop-k-preserved c =
     long-more c.requires.usable c.loop-k.invariant _ _ (omega arith)
-    (window c.args.lookup.now c.args.sorted.now c.args.bits c.loop-k.k c.requires.usable (omega arith)) refl (omega arith)
+    (window c.args.code.lookup.now c.args.code.sorted.now c.args.bits c.loop-k.k c.requires.usable (omega arith)) refl (omega arith)
 
 pub returns : goal.returns
 returns c = long_done c.requires.usable c.loop-k.invariant (omega arith)

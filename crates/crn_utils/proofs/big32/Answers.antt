@@ -1,8 +1,8 @@
--- One byte more than `big24`.
-use native.Mathlib.Omega.{arith}
+-- Four bytes, the first the highest.
+use Rattle.std.proofs.Common.{arith}
 use Rattle.crn_format.specs.Header.{field}
 use Rattle.crn_utils.proofs.big32.Goals as goal
 
 pub returns : goal.returns
 unfolding field
-returns c = omega arith
+returns c = let e = c.bytes.ensures in omega (arith, e 0 (omega arith), e 1 (omega arith), e 2 (omega arith), e 3 (omega arith))

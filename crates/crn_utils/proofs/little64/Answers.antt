@@ -1,7 +1,9 @@
--- Two times four bytes.
-use native.Mathlib.Omega.{arith}
-use Rattle.crn_utils.proofs.Words.{halves}
+-- Eight bytes, the first the lowest.
+use Rattle.std.proofs.Common.{zero-add, arith}
+use Rattle.crn_utils.specs.Little.{little_at}
+use Rattle.crn_utils.proofs.Words.{alike}
 use Rattle.crn_utils.proofs.little64.Goals as goal
 
 pub returns : goal.returns
-returns c = omega (arith, halves c.args.s.now c.args.at)
+unfolding little_at
+returns c = omega (arith, alike c.bytes.result c.args.s.now 8 0 c.args.at (λ k h. rw zero-add (c.bytes.ensures k h)))

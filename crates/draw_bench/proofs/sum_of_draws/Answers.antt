@@ -1,5 +1,5 @@
 -- `sum_of_draws` refuses lengths that make no code, and else is `total`.
-use Rattle.std.proofs.Common.{◌≤◌, true, false, length, sym, ◌∙◌, arith, rules, le-leb}
+use Rattle.std.proofs.Common.{◌≤◌, length, sym, ◌∙◌, arith, rules, le-leb}
 use borrow.Author.Tests.{lt-leb}
 use Rattle.crn_format.proofs.Kraft.{code_fits}
 use Rattle.draw_bench.proofs.sum_of_draws.Goals as goal

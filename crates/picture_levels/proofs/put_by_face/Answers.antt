@@ -2,16 +2,16 @@ use Prim.Native.Nat.{ℕ, ◌+◌, ◌-◌, ◌*◌, ◌≤◌, ◌<◌}
 use mathlib.Core.Bool.{true}
 use mathlib.Core.Path.{◌≡◌, refl, sym, ap, ◌∙◌}
 use native.Mathlib.Omega.{arith}
+use borrow.Author.Rules.{rules}
 use native.Mathlib.Nat.{sub-zero}
 use lib.ListN.{length}
 use borrow.Author.Tests.{lt-ltb}
 use borrow.Rule.Slice.PartMut.{put_mid, same_len_mid}
 use Rattle.crn_format.specs.Header.{within_limits}
 use Rattle.crn_format.specs.declared.Header.{Header}
-use Rattle.crn_formats.specs.Lent.{lent_of}
+use Rattle.crn_formats.specs.Lent.{lent}
 use Rattle.crn_formats.proofs.Limited.{limited}
 use Rattle.crn_drawing.specs.Levels.{record_with}
-use Rattle.crn_drawing.specs.declared.Unpacked.{Unpacked}
 use Rattle.crn_sizes.specs.Sizes.{level_sizes}
 use Rattle.crn_sizes.specs.declared.LevelSizes.{LevelSizes}
 use Rattle.crn_sizes.proofs.Counts.{most_cutouts, most_symbols, symbols-few}
@@ -20,7 +20,6 @@ use Rattle.picture.specs.Surfaces.{picture_of, surface, chain, chain_to, by_face
 use Rattle.picture.specs.Writing.{nothing, put_from}
 use Rattle.picture.proofs.Chains.{chain-none}
 use Rattle.picture.proofs.Bytes.{distance_so, room_for, chain-after}
-use Rattle.picture_levels.specs.Puts.{refused_by}
 use Rattle.picture_levels.proofs.Steps.{on, off, few_cuts, all_in, not_in, none_left}
 use Rattle.picture_levels.proofs.put_by_face.Goals as goal
 
@@ -48,22 +47,20 @@ here h head n level within number is e room place =
 pub loop-level-init : goal.loop-level-init
 loop-level-init c =
     record {
-      few = omega arith;
       place = omega (arith, chain-none (picture_of c.args.h));
       long = refl;
       drawn = omega arith;
       cut = omega arith;
       goes = λ t m.
           ap (λ (n : ℕ). put_from n (by_face c.args.head (picture_of c.args.h)) (record_with c.args.h t) c.args.file.now
-          (lent_of c.args.color_endpoints.now c.args.color_selectors.now c.args.alpha_endpoints.now
-          c.args.alpha_selectors.now)
+          (lent c.args.palettes.now)
           0 nothing c.args.dst.now) (sub-zero c.args.h.levels);
     }
 
 pub slice_bounds-unpack_made-count : goal.slice_bounds-unpack_made-count
 slice_bounds-unpack_made-count c =
     let w = here c.args.h c.args.head (length c.loop-level.dst) c.loop-level.level c.requires.tabled.made.within
-    (omega (arith, c.loop-level-test.true))
+    c.loop-level-test.true
     c.level_sizes-z.ensures c.requires.step_same (omega (arith, c.requires.room, c.loop-level.invariant.long)) c.loop-level.invariant.place
     in
     omega (arith, w.room)
@@ -71,7 +68,7 @@ slice_bounds-unpack_made-count c =
 pub slice_bounds-unpack_made-start : goal.slice_bounds-unpack_made-start
 slice_bounds-unpack_made-start c =
     let w = here c.args.h c.args.head (length c.loop-level.dst) c.loop-level.level c.requires.tabled.made.within
-    (omega (arith, c.loop-level-test.true))
+    c.loop-level-test.true
     c.level_sizes-z.ensures c.requires.step_same (omega (arith, c.requires.room, c.loop-level.invariant.long)) c.loop-level.invariant.place
     in
     omega (arith, w.room)
@@ -79,71 +76,60 @@ slice_bounds-unpack_made-start c =
 pub slice_bounds-unpack_made-end : goal.slice_bounds-unpack_made-end
 slice_bounds-unpack_made-end c =
     let w = here c.args.h c.args.head (length c.loop-level.dst) c.loop-level.level c.requires.tabled.made.within
-    (omega (arith, c.loop-level-test.true))
+    c.loop-level-test.true
     c.level_sizes-z.ensures c.requires.step_same (omega (arith, c.requires.room, c.loop-level.invariant.long)) c.loop-level.invariant.place
     in
     omega (arith, w.room)
 
-pub unpack_made-u-requires : goal.unpack_made-u-requires
-unpack_made-u-requires c = c.requires.tabled
-
 pub overflow_sub-symbols : goal.overflow_sub-symbols
 overflow_sub-symbols c =
-    let spent : c.unpack_made-u.new.budget ≤ c.level_sizes-z.result.symbols = omega
-    (arith, (c.unpack_made-u.ensures c.requires.tabled.of c.requires.tabled.made).spent) in
+    let spent : c.unpack_made-drawn.new.budget ≤ c.level_sizes-z.result.symbols = omega
+    (arith, (c.unpack_made-drawn.ensures c.requires.tabled.of c.requires.tabled.made).spent) in
     omega (arith, spent)
 
 pub overflow_add-symbols : goal.overflow_add-symbols
 overflow_add-symbols c =
-    let spent : c.unpack_made-u.new.budget ≤ c.level_sizes-z.result.symbols = omega
-    (arith, (c.unpack_made-u.ensures c.requires.tabled.of c.requires.tabled.made).spent) in
+    let spent : c.unpack_made-drawn.new.budget ≤ c.level_sizes-z.result.symbols = omega
+    (arith, (c.unpack_made-drawn.ensures c.requires.tabled.of c.requires.tabled.made).spent) in
     let w = here c.args.h c.args.head (length c.loop-level.dst) c.loop-level.level c.requires.tabled.made.within
-    (omega (arith, c.loop-level-test.true))
+    c.loop-level-test.true
     c.level_sizes-z.ensures c.requires.step_same (omega (arith, c.requires.room, c.loop-level.invariant.long)) c.loop-level.invariant.place
     in
     omega (arith, spent, c.loop-level.invariant.drawn, w.few, w.levels, w.number)
 
-pub shape_of-dst-in_default : goal.shape_of-dst-in_default
-shape_of-dst-in_default c =
-    let kept : length (put_mid c.loop-level.from (length c.loop-level.dst - c.loop-level.from) c.loop-level.dst c.unpack_made-u.new.dst) ≡
+pub shape_of-dst-in-Err : goal.shape_of-dst-in-Err
+shape_of-dst-in-Err c =
+    let kept : length (put_mid c.loop-level.from (length c.loop-level.dst - c.loop-level.from) c.loop-level.dst
+    c.unpack_made-drawn.new.dst) ≡
     length c.args.dst.now = same_len_mid c.loop-level.from (length c.loop-level.dst - c.loop-level.from) c.loop-level.dst
-    c.unpack_made-u.new.dst c.unpack_made-u.auto.dst ∙ c.loop-level.invariant.long in
-    c.clear.auto.dst ∙ kept
+    c.unpack_made-drawn.new.dst c.unpack_made-drawn.auto.dst ∙ c.loop-level.invariant.long in
+    omega (arith, kept)
 
-pub returns-in_default : goal.returns-in_default
-returns-in_default c =
-    let kept : length (put_mid c.loop-level.from (length c.loop-level.dst - c.loop-level.from) c.loop-level.dst c.unpack_made-u.new.dst) ≡
+pub returns-in-Err : goal.returns-in-Err
+returns-in-Err c =
+    let kept : length (put_mid c.loop-level.from (length c.loop-level.dst - c.loop-level.from) c.loop-level.dst
+    c.unpack_made-drawn.new.dst) ≡
     length c.args.dst.now = same_len_mid c.loop-level.from (length c.loop-level.dst - c.loop-level.from) c.loop-level.dst
-    c.unpack_made-u.new.dst c.unpack_made-u.auto.dst ∙ c.loop-level.invariant.long in
+    c.unpack_made-drawn.new.dst c.unpack_made-drawn.auto.dst ∙ c.loop-level.invariant.long in
     λ t m.
-    not_in c.args.dst.now (put_mid c.loop-level.from (length c.loop-level.dst - c.loop-level.from) c.loop-level.dst
-    c.unpack_made-u.new.dst)
-    (c.refused.ensures ∙ ap (λ (u : Unpacked). refused_by u c.loop-level.level (c.loop-level.symbols + (c.level_sizes-z.result.symbols
-    - c.unpack_made-u.new.budget))) c.in_default.is)
+    not_in c.args.dst.now _ (put_mid c.loop-level.from (length c.loop-level.dst - c.loop-level.from) c.loop-level.dst
+    c.unpack_made-drawn.new.dst)
     (sym (off (by_face c.args.head (picture_of c.args.h)) (record_with c.args.h t) _ _ c.loop-level.level _ c.loop-level.dst
     (c.args.h.levels - (c.loop-level.level + 1)) (omega (arith, c.loop-level-test.true)) c.level_sizes-z.ensures
     c.loop-level.invariant.place
-    (rest-whole c.loop-level.from c.loop-level.dst) c.requires.step_same (rw c.in_default.is at (c.unpack_made-u.ensures t m))) ∙
+    (rest-whole c.loop-level.from c.loop-level.dst) c.requires.step_same (rw c.in-Err.is at (c.unpack_made-drawn.ensures t m))) ∙
     c.loop-level.invariant.goes t m)
-    c.clear.ensures kept
-
-pub overflow_add-level : goal.overflow_add-level
-overflow_add-level c =
-    let w = here c.args.h c.args.head (length c.loop-level.dst) c.loop-level.level c.requires.tabled.made.within
-    (omega (arith, c.loop-level-test.true))
-    c.level_sizes-z.ensures c.requires.step_same (omega (arith, c.requires.room, c.loop-level.invariant.long)) c.loop-level.invariant.place
-    in
-    omega (arith, w.number, w.levels)
+    (search rules) kept
 
 pub overflow_add-from : goal.overflow_add-from
 overflow_add-from c =
     let w = here c.args.h c.args.head (length c.loop-level.dst) c.loop-level.level c.requires.tabled.made.within
-    (omega (arith, c.loop-level-test.true))
+    c.loop-level-test.true
     c.level_sizes-z.ensures c.requires.step_same (omega (arith, c.requires.room, c.loop-level.invariant.long)) c.loop-level.invariant.place
     in
     omega (
       arith,
-      c.well_formed.1.1.1.1.1.1.1.1.1.1.1.0.0,
+      c.well_formed.1.1.1.1.1.1.0.0,
       w.room,
       w.bytes,
       c.loop-level.invariant.long,
@@ -151,30 +137,27 @@ overflow_add-from c =
 
 pub overflow_add-cutouts : goal.overflow_add-cutouts
 overflow_add-cutouts c =
-    let few : c.in-Blocks.cut ≤ most_cutouts = few_cuts (record_with c.args.h c.requires.tabled.of) _ _ _ _ _ _ _
-    (rw c.in-Blocks.is at (c.unpack_made-u.ensures c.requires.tabled.of c.requires.tabled.made)) in
+    let few : c.in-Ok.unpacked.cutouts ≤ most_cutouts = few_cuts (record_with c.args.h c.requires.tabled.of) _ _ _ _ _ _ _
+    (rw c.in-Ok.is at (c.unpack_made-drawn.ensures c.requires.tabled.of c.requires.tabled.made)) in
     let w = here c.args.h c.args.head (length c.loop-level.dst) c.loop-level.level c.requires.tabled.made.within
-    (omega (arith, c.loop-level-test.true))
+    c.loop-level-test.true
     c.level_sizes-z.ensures c.requires.step_same (omega (arith, c.requires.room, c.loop-level.invariant.long)) c.loop-level.invariant.place
     in
     omega (arith, few, c.loop-level.invariant.cut, w.number, w.levels)
 
-pub loop-level-smaller : goal.loop-level-smaller
-loop-level-smaller c = omega (arith, c.loop-level-test.true)
-
 pub loop-level-preserved : goal.loop-level-preserved
 loop-level-preserved c =
-    let kept : length (put_mid c.loop-level.from (length c.loop-level.dst - c.loop-level.from) c.loop-level.dst c.unpack_made-u.new.dst) ≡
+    let kept : length (put_mid c.loop-level.from (length c.loop-level.dst - c.loop-level.from) c.loop-level.dst
+    c.unpack_made-drawn.new.dst) ≡
     length c.args.dst.now = same_len_mid c.loop-level.from (length c.loop-level.dst - c.loop-level.from) c.loop-level.dst
-    c.unpack_made-u.new.dst c.unpack_made-u.auto.dst ∙ c.loop-level.invariant.long in
-    let few : c.in-Blocks.cut ≤ most_cutouts = few_cuts (record_with c.args.h c.requires.tabled.of) _ _ _ _ _ _ _
-    (rw c.in-Blocks.is at (c.unpack_made-u.ensures c.requires.tabled.of c.requires.tabled.made)) in
+    c.unpack_made-drawn.new.dst c.unpack_made-drawn.auto.dst ∙ c.loop-level.invariant.long in
+    let few : c.in-Ok.unpacked.cutouts ≤ most_cutouts = few_cuts (record_with c.args.h c.requires.tabled.of) _ _ _ _ _ _ _
+    (rw c.in-Ok.is at (c.unpack_made-drawn.ensures c.requires.tabled.of c.requires.tabled.made)) in
     let w = here c.args.h c.args.head (length c.loop-level.dst) c.loop-level.level c.requires.tabled.made.within
-    (omega (arith, c.loop-level-test.true))
+    c.loop-level-test.true
     c.level_sizes-z.ensures c.requires.step_same (omega (arith, c.requires.room, c.loop-level.invariant.long)) c.loop-level.invariant.place
     in
     record {
-      few = omega (arith, w.number);
       place = omega (arith, c.loop-level.invariant.place, w.bytes, chain-after (picture_of c.args.h) c.loop-level.level);
       long = kept;
       drawn = omega (arith, c.loop-level.invariant.drawn, w.few);
@@ -183,7 +166,7 @@ loop-level-preserved c =
           sym (on (by_face c.args.head (picture_of c.args.h)) (record_with c.args.h t) _ _ c.loop-level.level _ c.loop-level.dst
           (c.args.h.levels - (c.loop-level.level + 1)) (omega (arith, w.number)) c.level_sizes-z.ensures c.loop-level.invariant.place
           (rest-whole c.loop-level.from c.loop-level.dst) c.requires.step_same (put_whole c.loop-level.from c.loop-level.dst _)
-          (rw c.in-Blocks.is at (c.unpack_made-u.ensures t m)))
+          (rw c.in-Ok.is at (c.unpack_made-drawn.ensures t m)))
           ∙ c.loop-level.invariant.goes t m;
     }
 
@@ -193,6 +176,6 @@ shape_of-dst c = c.loop-level.invariant.long
 pub returns : goal.returns
 returns c =
     λ t m.
-    all_in c.args.dst.now (sym (none_left (by_face c.args.head (picture_of c.args.h)) (record_with c.args.h t) _ _
+    all_in c.args.dst.now _ (sym (none_left (by_face c.args.head (picture_of c.args.h)) (record_with c.args.h t) _ _
     c.loop-level.level _ c.loop-level.dst
     (omega (arith, c.loop-level-test.false))) ∙ c.loop-level.invariant.goes t m)

@@ -6,7 +6,7 @@ use lib.ListN.{length}
 use Rattle.crn_format.specs.Opening.{Palettes}
 use Rattle.crn_format.specs.declared.Header.{Header}
 use Rattle.crn_format.specs.declared.Tables.{Tables}
-use Rattle.crn_formats.specs.Lent.{lent_of}
+use Rattle.crn_formats.specs.Lent.{lent}
 use Rattle.crn_decoders.specs.declared.decoders.Sizes.{Sizes}
 use Rattle.crn_drawing.specs.Levels.{record_with, Made}
 use Rattle.crn_sizes.proofs.Counts.{most_cutouts, most_symbols}
@@ -16,7 +16,6 @@ use Rattle.picture_levels.proofs.put_by_face.Given as goal
 
 pub record Going (h : Header) (s : Sizes) (lookup sorted file : List ℕ) (p : Palettes) (head : ℕ) (dst₀ dst : List ℕ)
     (level from symbols cutouts : ℕ) : Type 0 where
-  pub few : level ≤ h.levels
   pub place : from ≡ head + chain_to (picture_of h) level
   pub long : length dst ≡ length dst₀
   pub drawn : symbols ≤ most_symbols * level
@@ -27,9 +26,6 @@ pub record Going (h : Header) (s : Sizes) (lookup sorted file : List ℕ) (p : P
       ≡ put_from h.levels (by_face head (picture_of h)) (record_with h t) file p 0 nothing dst₀
 
 abbrev pub invariant-loop-level : goal.invariant-loop-level
-invariant-loop-level l = Going l.h l.s l.lookup l.sorted l.file (lent_of l.color_endpoints l.color_selectors l.alpha_endpoints
-    l.alpha_selectors) l.head l.initial.dst l.dst l.level l.from l.symbols
-    l.cutouts
-
-abbrev pub decreases-loop-level : goal.decreases-loop-level
-decreases-loop-level l = l.h.levels - l.level
+invariant-loop-level l =
+    Going l.h l.made.sizes l.made.lookup.now l.made.sorted.now l.file (lent l.palettes) l.head l.initial.dst l.dst l.level
+    l.from l.symbols l.cutouts

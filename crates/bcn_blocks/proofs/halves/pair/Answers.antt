@@ -4,44 +4,9 @@ use native.Mathlib.Omega.{arith}
 use Rattle.crn_utils.specs.Little.{little_at}
 use Rattle.bcn_blocks.proofs.halves.pair.Goals as goal
 
-pub overflow_cast-result : goal.overflow_cast-result
-overflow_cast-result c = omega (arith, c.type_inv.bytes c.args.at)
-
-pub overflow_cast-result-2 : goal.overflow_cast-result-2
-overflow_cast-result-2 c =
-    omega (
-      arith,
-      c.type_inv.bytes c.args.at,
-      c.type_inv.bytes
-          (c.args.at + 1),
-    )
-
-pub overflow_mul-result : goal.overflow_mul-result
-overflow_mul-result c =
-    omega (
-      arith,
-      c.type_inv.bytes c.args.at,
-      c.type_inv.bytes
-          (c.args.at + 1),
-    )
-
-pub overflow_add-result-2 : goal.overflow_add-result-2
-overflow_add-result-2 c =
-    omega (
-      arith,
-      c.type_inv.bytes c.args.at,
-      c.type_inv.bytes
-          (c.args.at + 1),
-    )
-
 pub returns : goal.returns
 unfolding little_at
-returns c = (
-  omega arith,
-  omega (
-    arith,
-    c.type_inv.bytes c.args.at,
-    c.type_inv.bytes
-        (c.args.at + 1),
-  ),
-)
+returns c =
+    let first = c.type_inv.bytes c.args.at in
+    let second = c.type_inv.bytes (c.args.at + 1) in
+    (omega (arith, c.from.ensures, c.from-2.ensures), omega (arith, c.from.ensures, c.from-2.ensures, first, second))

@@ -1,18 +1,9 @@
--- Three pairs, the first the lowest.
+-- Two pairs and a third, the first the lowest.
 use native.Mathlib.Omega.{arith}
-use Rattle.bcn_blocks.proofs.Laws.{six-little}
+use Rattle.bcn_blocks.proofs.Laws.{four-little, six-little}
 use Rattle.bcn_blocks.proofs.halves.six.Goals as goal
 
 pub returns : goal.returns
 returns c =
-    omega (
-      arith,
-      six-little c.args.bytes.now
-          c.args.at,
-      c.pair-low.ensures.0,
-      c.pair-middle.ensures.0,
-      c.pair-high.ensures.0,
-      c.wide.ensures,
-      c.wide-2.ensures,
-      c.wide-3.ensures,
-    )
+    let b = c.args.bytes.now in
+    omega (arith, four-little b c.args.at, six-little b c.args.at, c.quad.ensures.0, c.from.ensures, c.pair.ensures.0)

@@ -1,5 +1,5 @@
 -- The lengths of the code of lengths. The invariant: what is left to run from here is the whole run.
-use Prim.Native.Nat.{ℕ, ◌-◌, ◌≤◌}
+use Prim.Native.Nat.{ℕ, ◌-◌}
 use mathlib.Core.List.{List}
 use mathlib.Core.Path.{◌≡◌}
 use lib.ListN.{length, drop, replicate}
@@ -13,12 +13,8 @@ use Rattle.crn_code_tables.proofs.parts.sent_lengths.Given as goal
 pub record State (seg : List ℕ) (c : Cursor) (n : ℕ) (lengths : List ℕ) (at : Cursor) (i : ℕ) : Type 0 where
   pub long : length lengths ≡ 21
   pub holds : Holds seg at
-  pub within : i ≤ n
   pub same : (b : ℕ) → run (from_bits seg) (sent_lengths (n - i) (drop i length_order) lengths) (spot (place at) b)
       ≡ run (from_bits seg) (sent_lengths n length_order (replicate 21 0)) (spot (place c) b)
 
 abbrev pub invariant-loop-i : goal.invariant-loop-i
 invariant-loop-i l = State l.seg l.initial.at l.n l.lengths l.at l.i
-
-abbrev pub decreases-loop-i : goal.decreases-loop-i
-decreases-loop-i l = l.n - l.i

@@ -1,5 +1,5 @@
 -- A table is built in its part of the two lent arrays.
-use mathlib.Core.Path.{◌≡◌, sym, ◌∙◌}
+use mathlib.Core.Path.{◌≡◌, ◌∙◌}
 use native.Mathlib.Omega.{arith}
 use lib.ListN.{length, take}
 use lib.Seq.{length-take-le}
@@ -7,55 +7,12 @@ use Rattle.crn_decoders.proofs.Parts.{taken-long}
 use Rattle.crn_decoders.proofs.Made.{place_in, one_more}
 use Rattle.crn_decoders.proofs.decoders.make.Goals as goal
 
-pub overflow_mul-from : goal.overflow_mul-from
-overflow_mul-from c =
-    let lookup_at = place_in c.args.s.lookup_step (length c.args.lookup.now) c.args.k c.requires.able.lookups c.requires.k_in in
-    omega (arith, lookup_at)
-
-pub overflow_add-to : goal.overflow_add-to
-overflow_add-to c =
-    let lookup_at = place_in c.args.s.lookup_step (length c.args.lookup.now) c.args.k c.requires.able.lookups c.requires.k_in in
-    omega (arith, lookup_at)
-
-pub overflow_mul-first : goal.overflow_mul-first
-overflow_mul-first c =
-    let sorted_at = place_in c.args.s.sorted_step (length c.args.sorted.now) c.args.k c.requires.able.sorteds c.requires.k_in in
-    omega (arith, sorted_at)
-
-pub overflow_add-last : goal.overflow_add-last
-overflow_add-last c =
-    let sorted_at = place_in c.args.s.sorted_step (length c.args.sorted.now) c.args.k c.requires.able.sorteds c.requires.k_in in
-    omega (arith, sorted_at)
-
-pub slice_bounds-build-end : goal.slice_bounds-build-end
-slice_bounds-build-end c = sym (length-take-le _ _ c.requires.fair.inside)
-
-pub offset_bounds-lookup-from : goal.offset_bounds-lookup-from
-offset_bounds-lookup-from c =
-    let lookup_at = place_in c.args.s.lookup_step (length c.args.lookup.now) c.args.k c.requires.able.lookups c.requires.k_in in
-    omega (arith, lookup_at)
-
-pub slice_bounds-build-end-2 : goal.slice_bounds-build-end-2
-slice_bounds-build-end-2 c =
-    let lookup_at = place_in c.args.s.lookup_step (length c.args.lookup.now) c.args.k c.requires.able.lookups c.requires.k_in in
-    omega (arith, lookup_at)
-
-pub offset_bounds-sorted-first : goal.offset_bounds-sorted-first
-offset_bounds-sorted-first c =
-    let sorted_at = place_in c.args.s.sorted_step (length c.args.sorted.now) c.args.k c.requires.able.sorteds c.requires.k_in in
-    omega (arith, sorted_at)
-
-pub slice_bounds-build-end-3 : goal.slice_bounds-build-end-3
-slice_bounds-build-end-3 c =
-    let sorted_at = place_in c.args.s.sorted_step (length c.args.sorted.now) c.args.k c.requires.able.sorteds c.requires.k_in in
-    omega (arith, sorted_at)
-
 pub build-requires : goal.build-requires
 build-requires c =
     let lookup_at = place_in c.args.s.lookup_step (length c.args.lookup.now) c.args.k c.requires.able.lookups c.requires.k_in in
     let sorted_at = place_in c.args.s.sorted_step (length c.args.sorted.now) c.args.k c.requires.able.sorteds c.requires.k_in in
     let l : length (take c.args.count c.args.lengths.now) ≡ c.args.count = length-take-le c.args.count c.args.lengths.now
-    c.requires.fair.inside in
+    (omega (arith, c.requires.fair.few)) in
     let m = taken-long c.args.s.lookup_step c.args.lookup.now c.args.k lookup_at in
     let n = taken-long c.args.s.sorted_step c.args.sorted.now c.args.k sorted_at in
     record {

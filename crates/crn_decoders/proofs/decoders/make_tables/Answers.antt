@@ -1,47 +1,35 @@
--- The chunk table, and then the tables of the planes that the format has.
-use native.Mathlib.Omega.{arith}
-use Rattle.crn_decoders.proofs.Made.{able-kept, color-only, alpha-only, both-planes}
+-- The chunk table, the alpha plane's where there is one, and then the colour plane's.
+use mathlib.Core.Path.{◌≡◌}
+use Rattle.crn_format.specs.Choice.{pick}
+use Rattle.crn_formats.specs.Records.{tables_lent}
+use Rattle.crn_decoders.specs.Tables.{CodedTo, codes_of}
+use Rattle.crn_decoders.proofs.Made.{coded-at, first-made, alpha-made, color-made, colored, alpha-alone}
 use Rattle.crn_decoders.proofs.decoders.make_tables.Goals as goal
+use Rattle.crn_decoders.proofs.decoders.make_tables.Goals.{then-alpha, else-alpha}
 
-pub make_pair-requires : goal.make_pair-requires
-make_pair-requires c =
-    record {
-      ends_fair = c.requires.all_fair.color_e;
-      sels_fair = c.requires.all_fair.color_s;
-      able = able-kept c.requires.able
-          c.lookup-1.given c.sorted-1.given;
-      k_in = omega arith;
-    }
+pub returns-then-color-alpha : goal.returns-then-color-alpha
+returns-then-color-alpha c =
+    let a = c.args in
+    let chunk = first-made a.tables.now.counts _ _ _ _ _ a.s a.alpha c.make.ensures in
+    let before : CodedTo (codes_of a.alpha (tables_lent a.tables.now)) (pick a.alpha 3 1) a.s c.if-alpha.lookup c.if-alpha.sorted =
+    elim c.if-alpha.branch [
+      | then-alpha w ↦
+          rw (w.lookup-is, w.sorted-is) (alpha-made a.tables.now.counts _ _ _ _ _ a.s w.if-alpha.true chunk w.make_pair.ensures)
+      | else-alpha w ↦ rw (w.lookup-is, w.sorted-is, w.if-alpha.false) (rw w.if-alpha.false at chunk)
+    ] in
+    let k : c.if-alpha.k ≡ pick a.alpha 3 1 =
+    elim c.if-alpha.branch [ then-alpha w ↦ rw w.if-alpha.true w.k-is | else-alpha w ↦ rw w.if-alpha.false w.k-is ] in
+    coded-at (colored a.color a.alpha c.if-color-alpha.true)
+    (color-made a.tables.now.counts _ _ _ _ _ a.s a.alpha k before c.make_pair-then-color-alpha.ensures)
 
-pub returns-then-not-alpha : goal.returns-then-not-alpha
-returns-then-not-alpha c =
-    color-only _ _ _ _ _ _ _ c.make.ensures c.make_pair.ensures c.args.color c.args.alpha (c.if-not-alpha.true)
-
-pub make_pair-requires-2 : goal.make_pair-requires-2
-make_pair-requires-2 c =
-    record {
-      ends_fair = c.requires.all_fair.alpha_e;
-      sels_fair = c.requires.all_fair.alpha_s;
-      able = able-kept c.requires.able
-          c.lookup-1.given c.sorted-1.given;
-      k_in = omega arith;
-    }
-
-pub returns-then-not-color : goal.returns-then-not-color
-returns-then-not-color c =
-    alpha-only _ _ _ _ _ _ _ c.make.ensures c.make_pair-2.ensures c.args.color c.args.alpha (c.if-not-alpha.false) (c.if-not-color.true)
-
-pub make_pair-requires-3 : goal.make_pair-requires-3
-make_pair-requires-3 c =
-    record {
-      ends_fair = c.requires.all_fair.color_e;
-      sels_fair = c.requires.all_fair.color_s;
-      able = able-kept
-          (able-kept c.requires.able c.lookup-1.given c.sorted-1.given) c.lookup-2-1.given c.sorted-2-1.given;
-      k_in = omega arith;
-    }
-
-pub returns : goal.returns
-returns c =
-    both-planes _ _ _ _ _ _ _ c.make.ensures c.make_pair-2.ensures c.make_pair-3.ensures c.args.color c.args.alpha (c.if-not-alpha.false)
-    (c.if-not-color.false)
+pub returns-else-color-alpha : goal.returns-else-color-alpha
+returns-else-color-alpha c =
+    let a = c.args in
+    let chunk = first-made a.tables.now.counts _ _ _ _ _ a.s a.alpha c.make.ensures in
+    let before : CodedTo (codes_of a.alpha (tables_lent a.tables.now)) (pick a.alpha 3 1) a.s c.if-alpha.lookup c.if-alpha.sorted =
+    elim c.if-alpha.branch [
+      | then-alpha w ↦
+          rw (w.lookup-is, w.sorted-is) (alpha-made a.tables.now.counts _ _ _ _ _ a.s w.if-alpha.true chunk w.make_pair.ensures)
+      | else-alpha w ↦ rw (w.lookup-is, w.sorted-is, w.if-alpha.false) (rw w.if-alpha.false at chunk)
+    ] in
+    coded-at (alpha-alone a.color a.alpha c.if-color-alpha.false) before

@@ -7,15 +7,14 @@ use Rattle.crn_decomp.proofs.header_look.look_at.Goals as goal
 
 pub returns-then-not-is_signed : goal.returns-then-not-is_signed
 unfolding look_at
-returns-then-not-is_signed c = simp (sym c.is_signed.ensures ∙ c.if-not-is_signed.true, c.refused.ensures)
+returns-then-not-is_signed c = simp (sym c.is_signed.ensures ∙ c.if-not-is_signed.true)
 
 pub returns-then-not-within_limits : goal.returns-then-not-within_limits
 unfolding look_at
 returns-then-not-within_limits c =
     let known : signed_in c.args.head.now c.args.length ≡ true = sym c.is_signed.ensures ∙ c.if-not-is_signed.false in
-    let header = c.header_of-header.ensures in
-    let beyond = ap within_limits (sym header) ∙ sym c.within_limits.ensures ∙ c.if-not-within_limits.true in
-    simp (known, beyond, c.refused-then-not-within_limits.ensures)
+    let beyond = ap within_limits (sym c.header_of-header.ensures) ∙ sym c.within_limits.ensures ∙ c.if-not-within_limits.true in
+    simp (known, beyond)
 
 pub returns-then-not-sizes_hold : goal.returns-then-not-sizes_hold
 unfolding look_at
@@ -23,9 +22,8 @@ returns-then-not-sizes_hold c =
     let known : signed_in c.args.head.now c.args.length ≡ true = sym c.is_signed.ensures ∙ c.if-not-is_signed.false in
     let within : within_limits (header_of c.args.head.now) ≡ true = ap within_limits (sym c.header_of-header.ensures) ∙ sym
     c.within_limits.ensures ∙ c.if-not-within_limits.false in
-    let header = c.header_of-header.ensures in
-    let unsized = ap (sizes_in _) (sym header) ∙ sym c.sizes_hold.ensures ∙ c.if-not-sizes_hold.true in
-    simp (known, within, unsized, c.refused-then-not-sizes_hold.ensures)
+    let unsized = ap (sizes_in _) (sym c.header_of-header.ensures) ∙ sym c.sizes_hold.ensures ∙ c.if-not-sizes_hold.true in
+    simp (known, within, unsized)
 
 pub returns : goal.returns
 unfolding look_at

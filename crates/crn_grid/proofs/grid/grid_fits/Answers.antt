@@ -10,6 +10,6 @@ returns c =
     simp (
       grouped,
       c.row_bytes.ensures a.pitch a.distance,
-      c.holds.ensures,
+      c.holds.ensures _ c.checked_mul.ensures,
       c.rows_of.ensures.0 a.pitch a.distance,
     )

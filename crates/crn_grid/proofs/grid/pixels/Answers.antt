@@ -1,25 +1,30 @@
 -- A side halved for each level: from level 32 on nothing is left of it.
-use Prim.Native.Nat.{◌/◌, ◌^◌}
-use mathlib.Core.Path.{◌≡◌}
+use Prim.Native.Nat.{ℕ, zero, suc, ◌/◌, ◌^◌, ◌<◌, ◌≤◌, max}
+use mathlib.Core.Path.{◌≡◌, refl, ap, ◌∙◌}
 use native.Mathlib.Omega.{arith}
 use native.Mathlib.Nat.{div-eq_of_lt, lt_of_lt_of_le}
-use lib.Dec.{lit<}
+use borrow.Author.Tests.{ne_eqb}
+use lib.Dec.{eqb}
 use lib.Pow.{pow_mono}
-use borrow.Author.Tests.{eq-eqb, ne_eqb}
+use Rattle.std.proofs.Common.{Option, Some, None}
+use Rattle.std.specs.Option.{SomeIff, unwrap_or}
+use Rattle.crn_format.specs.Choice.{pick}
 use Rattle.crn_grid.proofs.grid.pixels.Goals as goal
 
-pub returns-then-n-gt0 : goal.returns-then-n-gt0
-returns-then-n-gt0 c =
-    let a = c.args in
-    (simp (ne_eqb (a.side / 2 ^ a.level) 0 (λ e. omega arith)), c.if-n-gt0.true)
+at_least_one : (n : ℕ) → max n 1 ≡ pick (eqb n 0) 1 n
+at_least_one zero = refl
+at_least_one (suc n) = rw (ne_eqb (suc n) 0 (λ e. omega arith)) (omega arith)
 
-pub returns-else-n-gt0 : goal.returns-else-n-gt0
-returns-else-n-gt0 c =
-    let a = c.args in
-    (simp (eq-eqb (a.side / 2 ^ a.level) 0 (omega arith)), lit< tt)
+halved : (o : Option ℕ) (side level : ℕ) → side < 2 ^ 32 → SomeIff o (level < 32) (side / 2 ^ level) → unwrap_or o 0 ≡ side / 2 ^ level
+halved None side level few past =
+    let far : 32 ≤ level = omega (arith, past) in
+    let none : side / 2 ^ level ≡ 0 = div-eq_of_lt (lt_of_lt_of_le few (pow_mono far)) in
+    rw none refl
+halved (Some n) side level few h = h.1
 
-pub returns-else-level-lt32 : goal.returns-else-level-lt32
-returns-else-level-lt32 c =
+pub returns : goal.returns
+returns c =
     let a = c.args in
-    let none : a.side / 2 ^ a.level ≡ 0 = div-eq_of_lt (lt_of_lt_of_le c.ranges.side.fits (pow_mono c.if-level-lt32.false)) in
-    (simp (eq-eqb (a.side / 2 ^ a.level) 0 none), lit< tt)
+    let n : c.unwrap_or.result ≡ a.side / 2 ^ a.level = c.unwrap_or.ensures ∙ halved c.checked_shr.result a.side a.level c.ranges.side.fits
+    c.checked_shr.ensures in
+    (c.max.ensures ∙ ap (λ (t : ℕ). max t 1) n ∙ at_least_one (a.side / 2 ^ a.level), omega arith)

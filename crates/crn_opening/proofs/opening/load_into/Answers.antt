@@ -1,6 +1,7 @@
 -- A load: the record against the file, and then the rest.
 use mathlib.Core.Path.{sym, ◌∙◌}
-use Rattle.crn_opening.proofs.Opens.{loads_apart, agreed, loads_on}
+use Rattle.std.proofs.Common.{rules}
+use Rattle.crn_opening.proofs.Opens.{loads_apart, agreed, loads_on, loads_lent}
 use Rattle.crn_opening.proofs.opening.load_into.Goals as goal
 
 pub returns-then-not-agrees : goal.returns-then-not-agrees
@@ -11,4 +12,6 @@ after_look-requires c = agreed _ _ (sym c.agrees.ensures ∙ c.if-not-agrees.fal
 
 pub returns : goal.returns
 returns c =
-    loads_on _ _ (sym c.agrees.ensures ∙ c.if-not-agrees.false) _ c.after_look.ensures
+    loads_lent c.after_look.new.lengths (search rules) (search rules) (search rules) (search rules) (search rules) c.after_look.new.lent
+    (search rules) (search rules) (search rules) (search rules)
+    (loads_on _ _ (sym c.agrees.ensures ∙ c.if-not-agrees.false) _ c.after_look.ensures.opens)

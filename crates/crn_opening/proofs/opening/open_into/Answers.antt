@@ -1,17 +1,18 @@
 -- Opening: the look, and then the rest.
-use Rattle.crn_opening.proofs.Opens.{closed_by, look-refused, look-passed, then_opens}
+use Rattle.std.proofs.Common.{rules}
+use Rattle.crn_opening.proofs.Opens.{closed_by, look-refused, look-passed, then_opens, none_lent, opens_lent}
 use Rattle.crn_opening.proofs.opening.open_into.Goals as goal
 
-pub returns-then-looked-ne0 : goal.returns-then-looked-ne0
-returns-then-looked-ne0 c =
-    look-refused _ c.look-looked.ensures _
-    c.if-looked-ne0.true (closed_by c.refused.ensures
-    c.clear_tables.ensures)
+pub returns-in-Err : goal.returns-in-Err
+returns-in-Err c =
+    look-refused _ _ _ c.in-Err.ensures
+    (closed_by c.refused.ensures
+    (none_lent c.clear.new.self (search rules) (search rules) (search rules) (search rules) (search rules) c.clear.ensures.zero))
 
 pub after_look-requires : goal.after_look-requires
-after_look-requires c = look-passed _ c.look-looked.ensures c.if-looked-ne0.false
+after_look-requires c = look-passed _ _ c.in-Ok.ensures
 
-pub returns : goal.returns
-returns c =
-    then_opens _ c.look-looked.ensures
-    c.if-looked-ne0.false _ c.after_look.ensures
+pub returns-in-Ok : goal.returns-in-Ok
+returns-in-Ok c =
+    opens_lent c.after_look.new.lengths (search rules) (search rules) (search rules) (search rules) (search rules) c.after_look.new.lent
+    (search rules) (search rules) (search rules) (search rules) _ (then_opens _ _ c.in-Ok.ensures _ c.after_look.ensures.opens)

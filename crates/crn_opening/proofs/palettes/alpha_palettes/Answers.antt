@@ -1,5 +1,5 @@
 -- The two palettes of the alpha plane.
-use native.Mathlib.Omega.{arith}
+use Rattle.crn_format.proofs.Results.{passed}
 use Rattle.crn_opening.proofs.Refusals.{alpha-endpoints_numbered, alpha-selectors_numbered}
 use Rattle.crn_opening.proofs.Streams.{plane_absent, plane_stops, plane_goes-on}
 use Rattle.crn_opening.proofs.palettes.alpha_palettes.Goals as goal
@@ -7,27 +7,13 @@ use Rattle.crn_opening.proofs.palettes.alpha_palettes.Goals as goal
 pub returns-then-ends-eq0 : goal.returns-then-ends-eq0
 returns-then-ends-eq0 c = plane_absent _ _ _ _ _ _ _ c.if-ends-eq0.true
 
-pub segment-requires : goal.segment-requires
-segment-requires c = (c.requires.first (omega arith)).inside
-
-pub alpha_endpoints-first-requires : goal.alpha_endpoints-first-requires
-alpha_endpoints-first-requires c =
-    let fits = c.requires.first (omega (arith, c.if-ends-eq0.false)) in
-    (omega (arith, c.segment.ensures.1, c.requires.short), fits.few, omega (arith, fits.room))
-
-pub returns-then-first-ne0 : goal.returns-then-first-ne0
-returns-then-first-ne0 c = plane_stops _ _ _ _ _ _ _ c.if-ends-eq0.false (alpha-endpoints_numbered _)
-    (rw c.segment.ensures.0 at c.alpha_endpoints-first.ensures) c.if-first-ne0.true
-
-pub segment-requires-2 : goal.segment-requires-2
-segment-requires-2 c = (c.requires.second (omega (arith, c.if-ends-eq0.false))).inside
-
-pub alpha_selectors-requires : goal.alpha_selectors-requires
-alpha_selectors-requires c =
-    let fits = c.requires.second (omega (arith, c.if-ends-eq0.false)) in
-    (omega (arith, c.segment-2.ensures.1, c.requires.short), fits.few, omega (arith, fits.room))
+pub returns-in_err-alpha_endpoints : goal.returns-in_err-alpha_endpoints
+returns-in_err-alpha_endpoints c =
+    rw (passed c.from_residual.ensures.1)
+    (plane_stops _ _ _ _ _ _ _ c.if-ends-eq0.false (alpha-endpoints_numbered _)
+    (rw c.segment.ensures.0 at c.in_err-alpha_endpoints.ensures))
 
 pub returns : goal.returns
 returns c =
-    plane_goes-on _ _ _ _ _ _ _ c.if-ends-eq0.false (alpha-endpoints_numbered _) (rw c.segment.ensures.0 at c.alpha_endpoints-first.ensures)
-    c.if-first-ne0.false (alpha-selectors_numbered _) (rw c.segment-2.ensures.0 at c.alpha_selectors.ensures)
+    plane_goes-on _ _ _ _ _ _ _ c.if-ends-eq0.false (alpha-endpoints_numbered _) (rw c.segment.ensures.0 at c.in_ok-alpha_endpoints.ensures)
+    (alpha-selectors_numbered _) (rw c.segment-2.ensures.0 at c.alpha_selectors.ensures)

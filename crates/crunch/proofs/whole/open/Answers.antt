@@ -1,9 +1,11 @@
 -- Opening: the look, and then the load.
-use Rattle.crunch.proofs.LookThenLoad.{then-shut, then-opened}
+use mathlib.Core.Path.{refl}
+use Rattle.crn_opening.proofs.Opens.{look-refused}
+use Rattle.crunch.proofs.LookThenLoad.{then-opened}
 use Rattle.crunch.proofs.whole.open.Goals as goal
 
-pub returns-then-looked-ne0 : goal.returns-then-looked-ne0
-returns-then-looked-ne0 c = then-shut _ _ c.look-looked.ensures c.load-loaded.ensures c.if-looked-ne0.true
+pub returns-in-Err : goal.returns-in-Err
+returns-in-Err c = look-refused _ _ _ c.in-Err.ensures refl
 
-pub returns : goal.returns
-returns c = then-opened _ _ c.look-looked.ensures c.load-loaded.ensures c.if-looked-ne0.false
+pub returns-in-Ok : goal.returns-in-Ok
+returns-in-Ok c = then-opened _ _ c.in-Ok.ensures _ c.load.ensures

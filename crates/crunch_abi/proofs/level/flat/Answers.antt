@@ -1,10 +1,5 @@
 -- An answer as one struct.
-use mathlib.Core.Path.{sym, ap}
-use Rattle.crunch_abi.specs.Answers.{answer_of}
 use Rattle.crunch_abi.proofs.level.flat.Goals as goal
 
-pub returns-in-Blocks : goal.returns-in-Blocks
-returns-in-Blocks c = sym (ap answer_of c.in-Blocks.is)
-
-pub returns-in-Refused : goal.returns-in-Refused
-returns-in-Refused c = sym (ap answer_of c.in-Refused.is)
+pub returns-in-Err : goal.returns-in-Err
+returns-in-Err c = rw c.in-Err.is (cc)

@@ -1,6 +1,6 @@
 -- The block's sixteen texels, put in their places.
 use native.Mathlib.Omega.{arith}
-use Rattle.crn_format.specs.Header.{kind_of, block_bytes}
+use Rattle.crn_format.specs.Header.{block_bytes}
 use Rattle.texels.proofs.Drawing.{agreed, block-there, block-agrees, few}
 use Rattle.texels.proofs.faces.block.Goals as goal
 
@@ -13,8 +13,8 @@ overflow_add-y c = omega (arith, few c.requires.room c.requires.block)
 pub block_texels-r-requires : goal.block_texels-r-requires
 block_texels-r-requires c =
     record {
-      format_known = c.requires.given.format-known;
-      block_in = block-there c.requires.block (block_bytes (kind_of c.args.format))
+      kind_known = c.requires.given.kind_known;
+      block_in = block-there c.requires.block (block_bytes c.args.kind)
           c.requires.given.all;
     }
 

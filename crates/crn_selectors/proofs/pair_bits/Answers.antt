@@ -1,8 +1,0 @@
--- Twice the bits of a value.
-use Rattle.crn_selectors.proofs.pair_bits.Goals as goal
-
-pub returns-then-alpha : goal.returns-then-alpha
-returns-then-alpha c = rw c.if-alpha.true
-
-pub returns : goal.returns
-returns c = rw c.if-alpha.false

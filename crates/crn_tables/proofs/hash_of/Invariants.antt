@@ -1,9 +1,0 @@
--- `hash_of` stays in its slice. Invariant: i is at most the length.
-use Rattle.std.proofs.Common.{◌≤◌, ◌-◌, length}
-use Rattle.crn_tables.proofs.hash_of.Given as goal
-
-abbrev pub invariant-loop-i : goal.invariant-loop-i
-invariant-loop-i l = l.i ≤ length l.bytes
-
-abbrev pub decreases-loop-i : goal.decreases-loop-i
-decreases-loop-i l = length l.bytes - l.i

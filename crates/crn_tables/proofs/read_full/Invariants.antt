@@ -1,9 +1,0 @@
--- `read_full` stays in its buffer. Invariant: no more bytes are read than it has room for.
-use Rattle.std.proofs.Common.{◌≤◌, ◌-◌, length}
-use Rattle.crn_tables.proofs.read_full.Given as goal
-
-abbrev pub invariant-loop-done : goal.invariant-loop-done
-invariant-loop-done g l = l.done ≤ length l.initial.buffer
-
-abbrev pub decreases-loop-done : goal.decreases-loop-done
-decreases-loop-done g l = length l.initial.buffer - l.done
