@@ -17,10 +17,8 @@ use Rattle.crn_format.specs.declared.Table.{Table}
 use Rattle.crn_format.specs.declared.Tables.{Tables}
 use Rattle.crn_symbol_codec.specs.Decoders.{Decodes}
 use Rattle.crn_decoders.specs.declared.decoders.Sizes.{Sizes}
-use Rattle.crn_formats.specs.Records.{table_by, tables_lent}
 use Rattle.crn_formats.specs.declared.records.Counts.{Counts}
-use Rattle.crn_formats.specs.declared.records.CodeTables.{CodeTables}
-use Rattle.crn_decoders.specs.Tables.{counts_of, Few, Fair, AllFair, Able, CodedTo, codes_by, tables_in}
+use Rattle.crn_decoders.specs.Tables.{counts_of, Few, Long, Fair, AllFair, Able, CodedTo, codes_by, tables_in}
 use Rattle.crn_format.proofs.Choices.{both_hold, and_hold}
 use Rattle.crn_chunks.specs.Meaning.{part}
 use Rattle.crn_blocks.proofs.Places.{further}
@@ -76,25 +74,25 @@ either-fits : (ls : List ℕ) (n : ℕ) (none : Bool) → eqb n 0 ≡ none → e
 either-fits ls n true e h = none_fit ls n (eqb-true n 0 e)
 either-fits ls n false e h = (both_hold (all_fit (take n ls) (length (take n ls))) _ h).0
 
-pub fair : (t : Table) (room : ℕ) → table_holds t ≡ true → t.count ≤ room → Fair t.lengths t.count room
-fair t room h fits =
+pub fair : (t : Table) (room : ℕ) → max_symbols ≤ length t.lengths → table_holds t ≡ true → t.count ≤ room → Fair t.lengths t.count room
+fair t room long h fits =
     let p = both_hold (leb t.count max_symbols) _ h in
     let few : t.count ≤ max_symbols = leb-true t.count max_symbols p.0 in
-    record { few = few; short = either-fits t.lengths t.count (eqb t.count 0) refl p.1; fits = fits }
+    record { inside = omega arith; few = few; short = either-fits t.lengths t.count (eqb t.count 0) refl p.1; fits = fits }
 
-pub all_fair : (t : CodeTables) (room : ℕ) → tables_hold (tables_lent t) ≡ true → Few t.counts room → AllFair t room
+pub all_fair : (t : Tables) (room : ℕ) → Long t → tables_hold t ≡ true → Few (counts_of t) room → AllFair t room
 unfolding tables_hold
-all_fair t room h few =
-    let p0 = both_hold (table_holds (table_by t.counts.chunk t.chunk.now)) _ h in
-    let p1 = both_hold (table_holds (table_by t.counts.color_ends t.color_ends.now)) _ p0.1 in
-    let p2 = both_hold (table_holds (table_by t.counts.color_sels t.color_sels.now)) _ p1.1 in
-    let p3 = both_hold (table_holds (table_by t.counts.alpha_ends t.alpha_ends.now)) _ p2.1 in
+all_fair t room long h few =
+    let p0 = both_hold (table_holds t.chunk_encoding) _ h in
+    let p1 = both_hold (table_holds t.color_endpoint_delta) _ p0.1 in
+    let p2 = both_hold (table_holds t.color_selector_delta) _ p1.1 in
+    let p3 = both_hold (table_holds t.alpha_endpoint_delta) _ p2.1 in
     record {
-      first = fair (table_by t.counts.chunk t.chunk.now) room p0.0 few.chunk;
-      color_e = fair (table_by t.counts.color_ends t.color_ends.now) room p1.0 few.color_ends;
-      color_s = fair (table_by t.counts.color_sels t.color_sels.now) room p2.0 few.color_sels;
-      alpha_e = fair (table_by t.counts.alpha_ends t.alpha_ends.now) room p3.0 few.alpha_ends;
-      alpha_s = fair (table_by t.counts.alpha_sels t.alpha_sels.now) room p3.1 few.alpha_sels;
+      first = fair t.chunk_encoding room long.chunk p0.0 few.chunk;
+      color_e = fair t.color_endpoint_delta room long.color_ends p1.0 few.color_ends;
+      color_s = fair t.color_selector_delta room long.color_sels p2.0 few.color_sels;
+      alpha_e = fair t.alpha_endpoint_delta room long.alpha_ends p3.0 few.alpha_ends;
+      alpha_s = fair t.alpha_selector_delta room long.alpha_sels p3.1 few.alpha_sels;
     }
 
 -- the code's test of five counts

@@ -5,9 +5,8 @@ use Rattle.crn_format.specs.Limits.{max_symbols}
 use Rattle.crn_format.specs.Codes.{all_fit}
 use Rattle.crn_format.specs.Grid.{nth_list}
 use Rattle.crn_format.specs.declared.Tables.{Tables}
-pub use Rattle.crn_formats.specs.Records.{table_by, tables_by, record_by, counts_of}
+pub use Rattle.crn_formats.specs.Records.{table_by, tables_by, record_by, counts_of, Long}
 use Rattle.crn_formats.specs.declared.records.Counts.{Counts}
-use Rattle.crn_formats.specs.declared.records.CodeTables.{CodeTables}
 use Rattle.crn_symbol_codec.specs.Decoders.{Decodes}
 use Rattle.crn_chunks.specs.Meaning.{part}
 use Rattle.crn_decoders.specs.declared.decoders.Sizes.{Sizes}
@@ -24,18 +23,19 @@ pub record Few (c : Counts) (n : ℕ) : Type 0 where
 
 -- ---- what a decoder table is made of
 
--- of the first `count` lengths, of which a table has `max_symbols`, a decoder table can be made, with room for so many sorted symbols
+-- of the first `count` lengths a decoder table can be made, with room for so many sorted symbols
 pub record Fair (lengths : List ℕ) (count room : ℕ) : Type 0 where
+  pub inside : count ≤ length lengths
   pub few : count ≤ max_symbols
   pub short : all_fit (take count lengths) (length (take count lengths)) ≡ true
   pub fits : count ≤ room
 
-pub record AllFair (t : CodeTables) (room : ℕ) : Type 0 where
-  pub first : Fair t.chunk.now t.counts.chunk room
-  pub color_e : Fair t.color_ends.now t.counts.color_ends room
-  pub color_s : Fair t.color_sels.now t.counts.color_sels room
-  pub alpha_e : Fair t.alpha_ends.now t.counts.alpha_ends room
-  pub alpha_s : Fair t.alpha_sels.now t.counts.alpha_sels room
+pub record AllFair (t : Tables) (room : ℕ) : Type 0 where
+  pub first : Fair t.chunk_encoding.lengths t.chunk_encoding.count room
+  pub color_e : Fair t.color_endpoint_delta.lengths t.color_endpoint_delta.count room
+  pub color_s : Fair t.color_selector_delta.lengths t.color_selector_delta.count room
+  pub alpha_e : Fair t.alpha_endpoint_delta.lengths t.alpha_endpoint_delta.count room
+  pub alpha_s : Fair t.alpha_selector_delta.lengths t.alpha_selector_delta.count room
 
 -- none is for more than 1,024 symbols, as the code tests it
 abbrev pub all_few : Counts → Bool

@@ -1,9 +1,9 @@
 // The decoder tables of a level, one after another in two lent arrays: the chunk symbols', the alpha plane's two, the colour plane's two.
 ghost use Rattle.std.specs.Prelude.{◌≡◌, List, ℕ, ◌+◌, ◌<◌, length, take};
-ghost use Rattle.crn_formats.specs.Records.{tables_lent};
+ghost use Rattle.crn_formats.specs.Records.{tables_sliced};
 ghost use Rattle.crn_decoders.specs.Tables.{Fair, AllFair, Able, CodedTo, all_few, wide_for, sizes_for, codes_of, tables_in};
 
-use crn_formats::{CodeTables, Counts};
+use crn_formats::{Counts, TableSlices};
 use crn_static_huffman_data_model::build;
 
 // How many first bits of a code are looked up, and how far apart two lookups are and the sorted symbols of two tables.
@@ -77,14 +77,7 @@ pub fn sizes_for(counts: Counts, columns: usize, rows: usize) -> Sizes
 
 // Table number k, of the first `count` lengths. Those before it stay.
 #[tactic(auto, using(crate::proofs::Made::place_in))]
-fn make(
-    lengths: &[u8; 8192],
-    count: u32,
-    k: usize,
-    s: Sizes,
-    lookup: &mut [u32],
-    sorted: &mut [u16],
-)
+fn make(lengths: &[u8], count: u32, k: usize, s: Sizes, lookup: &mut [u32], sorted: &mut [u16])
     requires fair { Fair lengths.now count s.sorted_step }
     requires able { Able s (length lookup.old) (length sorted.old) }
     requires k_in { k < 5 }
@@ -106,9 +99,9 @@ fn make(
 
 // A plane's two tables, numbers k and k + 1.
 fn make_pair(
-    ends: &[u8; 8192],
+    ends: &[u8],
     end_count: u32,
-    sels: &[u8; 8192],
+    sels: &[u8],
     sel_count: u32,
     k: usize,
     s: Sizes,
@@ -130,14 +123,14 @@ fn make_pair(
 pub fn make_tables(
     color: bool,
     alpha: bool,
-    tables: &CodeTables,
+    tables: &TableSlices,
     s: Sizes,
     lookup: &mut [u32],
     sorted: &mut [u16],
 )
-    requires all_fair { AllFair tables.now s.sorted_step }
+    requires all_fair { AllFair (tables_sliced tables.now) s.sorted_step }
     requires able { Able s (length lookup.old) (length sorted.old) }
-    ensures { CodedTo (codes_of alpha (tables_lent tables.now)) (tables_in color alpha) s lookup.new sorted.new }
+    ensures { CodedTo (codes_of alpha (tables_sliced tables.now)) (tables_in color alpha) s lookup.new sorted.new }
 {
     let counts = tables.counts;
     make(tables.chunk, counts.chunk, 0, s, lookup, sorted);

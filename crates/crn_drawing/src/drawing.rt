@@ -3,12 +3,12 @@ ghost use Rattle.std.specs.Prelude.{◌≡◌, List, ℕ, ◌<◌, ◌≤◌, le
 ghost use Rattle.crn_format.specs.Header.{kind_of};
 ghost use Rattle.crn_format.specs.Unpacking.{cutout_count, drawn_level};
 ghost use Rattle.crn_formats.specs.Lent.{lent};
-ghost use Rattle.crn_formats.specs.Records.{record_lent};
+ghost use Rattle.crn_formats.specs.Records.{tables_sliced, record_sliced};
 ghost use Rattle.crn_chunks.specs.Meaning.{Coded};
 ghost use Rattle.crn_blocks.specs.Sheet.{Room, standing};
 ghost use Rattle.crn_unpacker.specs.Going.{given_in, Fit};
 ghost use Rattle.crn_drawing.specs.Unpacks.{Unpacks};
-ghost use Rattle.crn_decoders.specs.Tables.{AllFair, Able};
+ghost use Rattle.crn_decoders.specs.Tables.{Long, AllFair, Able};
 ghost use Rattle.crn_drawing.specs.Levels.{Refuses, Finishes, Checked, ended_by};
 
 use crate::{Drawn, Refused, Unpacked};
@@ -16,7 +16,7 @@ use crn_blocks::{clear, cutouts};
 use crn_chunks::{Stop, Stream, Supply};
 use crn_decoders::{Sizes, make_tables, planes_of, sizes_for};
 use crn_format::{Grid, Header, Kind};
-use crn_formats::{CodeTables, Palettes};
+use crn_formats::{Palettes, TableSlices};
 use crn_symbol_codec::start;
 use crn_unpacker::{Level, paint};
 
@@ -77,7 +77,7 @@ pub fn draw_chunks(format: u32, level: &Level, budget: &mut u64, dst: &mut [u8])
 // The level by decoder tables that are made in arrays of so many words and symbols.
 fn draw_in<const WORDS: usize, const SYMBOLS: usize>(
     h: Header,
-    tables: &CodeTables,
+    tables: &TableSlices,
     s: Sizes,
     seg: &[u8],
     palettes: &Palettes,
@@ -85,11 +85,11 @@ fn draw_in<const WORDS: usize, const SYMBOLS: usize>(
     budget: &mut u64,
     dst: &mut [u8],
 ) -> Drawn
-    requires checked { Checked (record_lent h tables.now) seg.now (lent palettes.now) g (length dst.old) }
-    requires all_fair { AllFair tables.now s.sorted_step }
+    requires checked { Checked (record_sliced h tables.now) seg.now (lent palettes.now) g (length dst.old) }
+    requires all_fair { AllFair (tables_sliced tables.now) s.sorted_step }
     requires able { Able s WORDS SYMBOLS }
     requires in_memory { (WORDS < 65536) × (SYMBOLS < 65536) }
-    ensures { Unpacks (drawn_level (record_lent h tables.now) seg.now (lent palettes.now) g budget.old dst.old)
+    ensures { Unpacks (drawn_level (record_sliced h tables.now) seg.now (lent palettes.now) g budget.old dst.old)
         budget.old budget.new dst.new result }
 {
     let mut lookup = [0u32; WORDS];
@@ -119,15 +119,16 @@ fn draw_in<const WORDS: usize, const SYMBOLS: usize>(
 // A level whose checks have passed. No more is zeroed than its tables need: a small grid has small lookups, few symbols little room.
 pub fn draw_level(
     h: Header,
-    tables: &CodeTables,
+    tables: &TableSlices,
     seg: &[u8],
     palettes: &Palettes,
     g: Grid,
     budget: &mut u64,
     dst: &mut [u8],
 ) -> Drawn
-    requires { Checked (record_lent h tables.now) seg.now (lent palettes.now) g (length dst.old) }
-    ensures { Unpacks (drawn_level (record_lent h tables.now) seg.now (lent palettes.now) g budget.old dst.old)
+    requires checked { Checked (record_sliced h tables.now) seg.now (lent palettes.now) g (length dst.old) }
+    requires long { Long (tables_sliced tables.now) }
+    ensures { Unpacks (drawn_level (record_sliced h tables.now) seg.now (lent palettes.now) g budget.old dst.old)
         budget.old budget.new dst.new result }
 {
     let s = sizes_for(tables.counts, g.columns, g.rows);

@@ -9,4 +9,4 @@ mod records; // what is lent beside a header
 pub use conditions::{between, implies};
 pub use formats::{block_bytes, has_alpha, has_color, is_known};
 pub use limits::{MAX_ENTRIES, MAX_LEVELS, MAX_SIDE, MIN_SIZE, TOO_LONG};
-pub use records::{CodeTables, Counts, Palettes};
+pub use records::{CodeTables, Counts, Palettes, TableSlices};

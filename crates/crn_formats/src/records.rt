@@ -1,4 +1,6 @@
 // What is lent beside a header: the code tables of a record, and the palettes.
+ghost use Rattle.std.specs.Prelude.{◌≡◌};
+ghost use Rattle.crn_formats.specs.Records.{tables_lent, tables_sliced, Long};
 
 // How many symbols each of the five tables of a record is for.
 #[repr(C)]
@@ -20,6 +22,39 @@ pub struct CodeTables<'a> {
     pub color_sels: &'a [u8; 8192],
     pub alpha_ends: &'a [u8; 8192],
     pub alpha_sels: &'a [u8; 8192],
+}
+
+// The same with slices, for lengths that need not stand in an array of a record's size.
+#[derive(Clone, Copy)]
+pub struct TableSlices<'a> {
+    pub counts: Counts,
+    pub chunk: &'a [u8],
+    pub color_ends: &'a [u8],
+    pub color_sels: &'a [u8],
+    pub alpha_ends: &'a [u8],
+    pub alpha_sels: &'a [u8],
+}
+
+impl<'a> CodeTables<'a> {
+    // Each array as a slice.
+    pub fn as_slices(&self) -> TableSlices<'a>
+        ensures same { tables_sliced result ≡ tables_lent self.now }
+        ensures long { Long (tables_sliced result) }
+    {
+        let chunk = self.chunk;
+        let color_ends = self.color_ends;
+        let color_sels = self.color_sels;
+        let alpha_ends = self.alpha_ends;
+        let alpha_sels = self.alpha_sels;
+        TableSlices {
+            counts: self.counts,
+            chunk,
+            color_ends,
+            color_sels,
+            alpha_ends,
+            alpha_sels,
+        }
+    }
 }
 
 // The four palettes.

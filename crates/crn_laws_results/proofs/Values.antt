@@ -8,6 +8,7 @@ use Rattle.crn_format.specs.Look.{looked}
 use Rattle.crn_format.specs.declared.Header.{Header}
 use Rattle.crn_format.specs.declared.Looked.{Looked}
 use Rattle.crn_format.specs.declared.Refusal.{Refusal}
+use Rattle.crn_format.specs.declared.Tables.{Tables}
 use Rattle.crn_format.proofs.Kind.has_color.Reads as kind-has-color
 use Rattle.crn_format.proofs.Kind.has_alpha.Reads as kind-has-alpha
 use Rattle.crn_format.proofs.Kind.is_known.Reads as kind-is-known
@@ -35,7 +36,9 @@ use Rattle.crn_formats.proofs.implies.Reads as implies
 use Rattle.crn_formats.proofs.has_color.Reads as has-color
 use Rattle.crn_formats.proofs.has_alpha.Reads as has-alpha
 use Rattle.crn_formats.proofs.is_known.Reads as is_Known
+use Rattle.crn_formats.specs.Records.{tables_sliced}
 use Rattle.crn_formats.proofs.block_bytes.Reads as block-bytes
+use Rattle.crn_formats.proofs.CodeTables.as_slices.Reads as as-slices
 use Rattle.crn_header.proofs.is_signed.Reads as is_Signed
 use Rattle.crn_header.proofs.header_of.Reads as header_of
 use Rattle.crn_bounds.proofs.within_limits.Reads as within-limits
@@ -180,6 +183,10 @@ is_known-settled _ _ _ _ _ _ _ p q = alike p q
 
 pub block_bytes-settled : Settled block-bytes.Post the_answer
 block_bytes-settled _ _ _ _ _ _ _ p q = alike p q
+
+-- the counts and what the slices hold
+pub as_slices-settled : Settled {X = Tables} as-slices.Post (λ a r e. tables_sliced r)
+as_slices-settled _ _ _ _ _ _ _ p q = alike p.0 q.0
 
 -- ---- crn_decomp
 

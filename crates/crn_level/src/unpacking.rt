@@ -108,7 +108,8 @@ pub fn unpack_level_by(
     ensures { Unpacks (unpacking_of (record_lent header tables.now) file.now (lent palettes.now) level pitch distance budget.old dst.old)
         budget.old budget.new dst.new result }
 {
-    let hold = tables_hold(tables);
+    let slices = tables.as_slices();
+    let hold = tables_hold(&slices);
     match check(
         header,
         hold,
@@ -122,7 +123,7 @@ pub fn unpack_level_by(
         Err(refusal) => refused(refusal),
         Ok(()) => draw_level(
             header,
-            tables,
+            &slices,
             segment_of(file, header, level),
             palettes,
             grid_of(header, level, pitch, distance),

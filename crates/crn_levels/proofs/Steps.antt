@@ -18,15 +18,14 @@ use Rattle.crn_format.specs.declared.Kind.{Kind}
 use Rattle.crn_format.specs.declared.Refusal.{Refusal}
 use Rattle.crn_format.specs.declared.Refusal.TheVariants.{BeyondLimits, NoCode, NoLevel}
 use Rattle.crn_format.specs.declared.Record.{Record}
+use Rattle.crn_format.specs.declared.Tables.{Tables}
 use Rattle.crn_format.specs.declared.Grid.{Grid}
 use Rattle.crn_format.proofs.Passing.{accepted-passed}
-use Rattle.crn_formats.specs.Records.{tables_lent, record_lent}
-use Rattle.crn_formats.specs.declared.records.CodeTables.{CodeTables}
 use Rattle.crn_decoders.specs.Tables.{Able, CodedTo, codes_of, tables_in}
 use Rattle.crn_decoders.specs.declared.decoders.Sizes.{Sizes}
 use Rattle.crn_decoders.proofs.Made.{able-kept}
 use Rattle.crn_drawing.specs.Unpacks.{answer_of, Unpacks}
-use Rattle.crn_drawing.specs.Levels.{Made}
+use Rattle.crn_drawing.specs.Levels.{record_with, Made}
 use Rattle.crn_drawing.proofs.ByRecord.{ready_by}
 use Rattle.crn_drawing.specs.declared.Unpacked.{Unpacked}
 use Rattle.crn_drawing.specs.declared.Refused.{Refused}
@@ -148,16 +147,16 @@ all-through r file p f dst e = rw e (record { answer = refl; budget = refl; leav
 -- ---- the tables that were made
 
 -- two arrays that have kept their lengths hold the decoder tables of a lent record
-pub made-lent : (h : Header) (t : CodeTables) {s : Sizes} {m n : ℕ} {lookup sorted : List ℕ} {kind : Kind} {color alpha : Bool}
-    → within_limits h ≡ true → tables_hold (tables_lent t) ≡ true → Able s m n → length lookup ≡ m → length sorted ≡ n
+pub made-lent : (h : Header) (t : Tables) {s : Sizes} {m n : ℕ} {lookup sorted : List ℕ} {kind : Kind} {color alpha : Bool}
+    → within_limits h ≡ true → tables_hold t ≡ true → Able s m n → length lookup ≡ m → length sorted ≡ n
     → kind ≡ kind_of h.format → color ≡ has_color kind → alpha ≡ has_alpha kind
-    → CodedTo (codes_of alpha (tables_lent t)) (tables_in color alpha) s lookup sorted → Made (record_lent h t) s lookup sorted
+    → CodedTo (codes_of alpha t) (tables_in color alpha) s lookup sorted → Made (record_with h t) s lookup sorted
 made-lent h t within holds able e f is is-color is-alpha coded =
     record {
       within = within;
       tables = holds;
       able = able-kept able e f;
-      coded = ready_by (record_lent h t) (is-color ∙ ap has_color is) (is-alpha ∙ ap has_alpha is) refl coded;
+      coded = ready_by (record_with h t) (is-color ∙ ap has_color is) (is-alpha ∙ ap has_alpha is) refl coded;
     }
 
 -- ---- the first level is refused before the tables are made

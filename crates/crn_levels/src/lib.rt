@@ -7,7 +7,7 @@ ghost use Rattle.crn_format.specs.Header.{within_limits};
 ghost use Rattle.crn_format.specs.Unpacking.{tables_hold};
 ghost use Rattle.crn_format.specs.declared.Tables.{Tables};
 ghost use Rattle.crn_formats.specs.Lent.{lent};
-ghost use Rattle.crn_formats.specs.Records.{tables_lent, record_lent};
+ghost use Rattle.crn_formats.specs.Records.{tables_sliced, record_lent, record_sliced};
 ghost use Rattle.crn_decoders.specs.Tables.{AllFair, Able};
 ghost use Rattle.crn_drawing.specs.Levels.{Made, Tabled, record_with};
 ghost use Rattle.crn_levels.specs.Several.{begun, several_from, several_of, Gives};
@@ -17,7 +17,7 @@ use crn_bounds::within_limits;
 use crn_decoders::{Decoders, Sizes, make_tables, sizes_for, tables_hold};
 use crn_drawing::Refused;
 use crn_format::{Header, Kind, Refusal};
-use crn_formats::{CodeTables, Palettes};
+use crn_formats::{CodeTables, Palettes, TableSlices};
 use crn_grid::{columns_of, rows_of};
 use crn_level::unpack_made;
 use crn_sizes::level_sizes;
@@ -97,7 +97,7 @@ fn levels_by(
 // The decoder tables made in arrays of so many words and symbols, and then the levels.
 fn levels_in<const WORDS: usize, const SYMBOLS: usize>(
     h: Header,
-    tables: &CodeTables,
+    tables: &TableSlices,
     s: Sizes,
     file: &[u8],
     palettes: &Palettes,
@@ -106,11 +106,11 @@ fn levels_in<const WORDS: usize, const SYMBOLS: usize>(
     dst: &mut [u8],
 ) -> Several
     requires within_limits { within_limits h ≡ true }
-    requires tables_hold { tables_hold (tables_lent tables.now) ≡ true }
-    requires all_fair { AllFair tables.now s.sorted_step }
+    requires tables_hold { tables_hold (tables_sliced tables.now) ≡ true }
+    requires all_fair { AllFair (tables_sliced tables.now) s.sorted_step }
     requires able { Able s WORDS SYMBOLS }
     requires in_memory { (WORDS < 65536) × (SYMBOLS < 65536) }
-    ensures { Gives (several_from (h.levels - first) (record_lent h tables.now) file.now (lent palettes.now)
+    ensures { Gives (several_from (h.levels - first) (record_sliced h tables.now) file.now (lent palettes.now)
         (begun first budget.old) dst.old)
         budget.new dst.new result }
 {
@@ -163,22 +163,23 @@ pub fn unpack_levels(
     if !within_limits(header) {
         return none(Refusal::BeyondLimits);
     }
-    if !tables_hold(tables) {
+    let slices = tables.as_slices();
+    if !tables_hold(&slices) {
         return none(Refusal::NoCode);
     }
     if header.levels <= first {
         return none(Refusal::NoLevel);
     }
     let s = sizes_for(
-        tables.counts,
+        slices.counts,
         columns_of(header, first),
         rows_of(header, first),
     );
     if 1024 < s.sorted_step {
-        levels_in::<20640, 40960>(header, tables, s, file, palettes, first, budget, dst)
+        levels_in::<20640, 40960>(header, &slices, s, file, palettes, first, budget, dst)
     } else if 288 < s.lookup_step {
-        levels_in::<10400, 5120>(header, tables, s, file, palettes, first, budget, dst)
+        levels_in::<10400, 5120>(header, &slices, s, file, palettes, first, budget, dst)
     } else {
-        levels_in::<1440, 5120>(header, tables, s, file, palettes, first, budget, dst)
+        levels_in::<1440, 5120>(header, &slices, s, file, palettes, first, budget, dst)
     }
 }

@@ -74,7 +74,8 @@ pub fn write_dds(
     if !within_limits(header) {
         return none(Refusal::BeyondLimits);
     }
-    if !tables_hold(tables) {
+    let slices = tables.as_slices();
+    if !tables_hold(&slices) {
         return none(Refusal::NoCode);
     }
     let chain = chain_bytes(header);

@@ -6,7 +6,7 @@ ghost use Rattle.crn_format.specs.Header.{within_limits};
 ghost use Rattle.crn_format.specs.Unpacking.{tables_hold};
 ghost use Rattle.crn_format.specs.declared.Tables.{Tables};
 ghost use Rattle.crn_formats.specs.Lent.{lent};
-ghost use Rattle.crn_formats.specs.Records.{tables_lent, record_lent};
+ghost use Rattle.crn_formats.specs.Records.{tables_lent, tables_sliced, record_lent, record_sliced};
 ghost use Rattle.crn_decoders.specs.Tables.{AllFair, Able};
 ghost use Rattle.crn_drawing.specs.Levels.{Made, Tabled, record_with};
 ghost use Rattle.picture.specs.Surfaces.{picture_of, chain as chain_of, by_face};
@@ -15,7 +15,7 @@ ghost use Rattle.picture_levels.specs.Puts.{Puts};
 
 use crn_decoders::{Decoders, Sizes, make_tables, sizes_for};
 use crn_format::{Header, Kind, Refusal};
-use crn_formats::{CodeTables, Palettes};
+use crn_formats::{CodeTables, Palettes, TableSlices};
 use crn_grid::{columns_of, rows_of};
 use crn_level::unpack_made;
 use crn_sizes::level_sizes;
@@ -94,7 +94,7 @@ fn put_by_face(
 // The decoder tables made in arrays of so many words and symbols, and then the levels put.
 fn put_in<const WORDS: usize, const SYMBOLS: usize>(
     h: Header,
-    tables: &CodeTables,
+    tables: &TableSlices,
     s: Sizes,
     file: &[u8],
     palettes: &Palettes,
@@ -103,14 +103,14 @@ fn put_in<const WORDS: usize, const SYMBOLS: usize>(
     dst: &mut [u8],
 ) -> Result<Put, NotPut>
     requires within_limits { within_limits h ≡ true }
-    requires tables_hold { tables_hold (tables_lent tables.now) ≡ true }
-    requires all_fair { AllFair tables.now s.sorted_step }
+    requires tables_hold { tables_hold (tables_sliced tables.now) ≡ true }
+    requires all_fair { AllFair (tables_sliced tables.now) s.sorted_step }
     requires able { Able s WORDS SYMBOLS }
     requires in_memory { (WORDS < 65536) × (SYMBOLS < 65536) }
     requires chain_same { chain ≡ chain_of (picture_of h) }
     requires room { head + h.faces * chain ≤ length dst.old }
     ensures { Puts (put_from h.levels (by_face head (picture_of h))
-        (record_lent h tables.now) file.now
+        (record_sliced h tables.now) file.now
         (lent palettes.now) 0 nothing dst.old)
         dst.old dst.new result }
 {
@@ -152,12 +152,13 @@ pub fn put_levels(
         (lent palettes.now) 0 nothing dst.old)
         dst.old dst.new result }
 {
-    let s = sizes_for(tables.counts, columns_of(h, 0), rows_of(h, 0));
+    let slices = tables.as_slices();
+    let s = sizes_for(slices.counts, columns_of(h, 0), rows_of(h, 0));
     if 1024 < s.sorted_step {
-        put_in::<20640, 40960>(h, tables, s, file, palettes, head, chain, dst)
+        put_in::<20640, 40960>(h, &slices, s, file, palettes, head, chain, dst)
     } else if 288 < s.lookup_step {
-        put_in::<10400, 5120>(h, tables, s, file, palettes, head, chain, dst)
+        put_in::<10400, 5120>(h, &slices, s, file, palettes, head, chain, dst)
     } else {
-        put_in::<1440, 5120>(h, tables, s, file, palettes, head, chain, dst)
+        put_in::<1440, 5120>(h, &slices, s, file, palettes, head, chain, dst)
     }
 }

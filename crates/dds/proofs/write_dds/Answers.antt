@@ -1,6 +1,7 @@
 -- The tests in their order, the levels in the region, and then the header.
 use borrow.Author.Rules.{rules}
-use mathlib.Core.Path.{sym}
+use mathlib.Core.Path.{sym, ap, ◌∙◌}
+use Rattle.crn_format.specs.Unpacking.{tables_hold}
 use Rattle.crn_formats.specs.Records.{record_lent}
 use Rattle.dds.specs.Header.{dds_of}
 use Rattle.picture.proofs.Refusals.{no_2, no_6, no_16, no_12}
@@ -22,10 +23,12 @@ returns-then-dst-total c = search (rules, no_12)
 pub returns-in-Ok : goal.returns-in-Ok
 returns-in-Ok c =
     written_so dds_of (record_lent c.args.header c.args.tables.now) _ _ _ (sym c.if-not-within_limits.ensures)
-    (sym c.if-not-tables_hold.ensures) (sym c.if-not-goes_out.ensures) (cc) c.if-dst-total.false _ c.in-Ok.levels c.in-Ok.ensures
+    (sym (c.if-not-tables_hold.ensures ∙ ap tables_hold c.as_slices-slices.ensures.same)) (sym c.if-not-goes_out.ensures) (cc)
+    c.if-dst-total.false _ c.in-Ok.levels c.in-Ok.ensures
     (rw c.put_header.ensures)
 
 pub returns-in-Err : goal.returns-in-Err
 returns-in-Err c =
     rw c.into.ensures (stopped_so dds_of (record_lent c.args.header c.args.tables.now) _ _ _ (sym c.if-not-within_limits.ensures)
-    (sym c.if-not-tables_hold.ensures) (sym c.if-not-goes_out.ensures) (cc) c.if-dst-total.false _ c.in-Err.e c.in-Err.ensures)
+    (sym (c.if-not-tables_hold.ensures ∙ ap tables_hold c.as_slices-slices.ensures.same)) (sym c.if-not-goes_out.ensures) (cc)
+    c.if-dst-total.false _ c.in-Err.e c.in-Err.ensures)

@@ -12,7 +12,7 @@ build-requires c =
     let lookup_at = place_in c.args.s.lookup_step (length c.args.lookup.now) c.args.k c.requires.able.lookups c.requires.k_in in
     let sorted_at = place_in c.args.s.sorted_step (length c.args.sorted.now) c.args.k c.requires.able.sorteds c.requires.k_in in
     let l : length (take c.args.count c.args.lengths.now) ≡ c.args.count = length-take-le c.args.count c.args.lengths.now
-    (omega (arith, c.requires.fair.few)) in
+    c.requires.fair.inside in
     let m = taken-long c.args.s.lookup_step c.args.lookup.now c.args.k lookup_at in
     let n = taken-long c.args.s.sorted_step c.args.sorted.now c.args.k sorted_at in
     record {

@@ -1,7 +1,7 @@
 -- The chunk table, the alpha plane's where there is one, and then the colour plane's.
 use mathlib.Core.Path.{◌≡◌}
 use Rattle.crn_format.specs.Choice.{pick}
-use Rattle.crn_formats.specs.Records.{tables_lent}
+use Rattle.crn_formats.specs.Records.{tables_sliced}
 use Rattle.crn_decoders.specs.Tables.{CodedTo, codes_of}
 use Rattle.crn_decoders.proofs.Made.{coded-at, first-made, alpha-made, color-made, colored, alpha-alone}
 use Rattle.crn_decoders.proofs.decoders.make_tables.Goals as goal
@@ -11,7 +11,7 @@ pub returns-then-color-alpha : goal.returns-then-color-alpha
 returns-then-color-alpha c =
     let a = c.args in
     let chunk = first-made a.tables.now.counts _ _ _ _ _ a.s a.alpha c.make.ensures in
-    let before : CodedTo (codes_of a.alpha (tables_lent a.tables.now)) (pick a.alpha 3 1) a.s c.if-alpha.lookup c.if-alpha.sorted =
+    let before : CodedTo (codes_of a.alpha (tables_sliced a.tables.now)) (pick a.alpha 3 1) a.s c.if-alpha.lookup c.if-alpha.sorted =
     elim c.if-alpha.branch [
       | then-alpha w ↦
           rw (w.lookup-is, w.sorted-is) (alpha-made a.tables.now.counts _ _ _ _ _ a.s w.if-alpha.true chunk w.make_pair.ensures)
@@ -26,7 +26,7 @@ pub returns-else-color-alpha : goal.returns-else-color-alpha
 returns-else-color-alpha c =
     let a = c.args in
     let chunk = first-made a.tables.now.counts _ _ _ _ _ a.s a.alpha c.make.ensures in
-    let before : CodedTo (codes_of a.alpha (tables_lent a.tables.now)) (pick a.alpha 3 1) a.s c.if-alpha.lookup c.if-alpha.sorted =
+    let before : CodedTo (codes_of a.alpha (tables_sliced a.tables.now)) (pick a.alpha 3 1) a.s c.if-alpha.lookup c.if-alpha.sorted =
     elim c.if-alpha.branch [
       | then-alpha w ↦
           rw (w.lookup-is, w.sorted-is) (alpha-made a.tables.now.counts _ _ _ _ _ a.s w.if-alpha.true chunk w.make_pair.ensures)
