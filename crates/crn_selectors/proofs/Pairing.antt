@@ -8,10 +8,13 @@ use native.Mathlib.Decide.{ℕ_discrete, dec_lt}
 use native.Mathlib.Nat.{add-mod-mod}
 use lib.ListN.{length, get_or, set, replicate, length-set, length-replicate}
 use lib.Seq.{get_or-set_same, get_or-set_other, set_out}
+use borrow.Author.Tests.{lt-ltb}
 use Rattle.crn_format.specs.Palettes.{delta_count, raised, pair_moved, from_linear}
 use Rattle.crn_format.proofs.Zeros.{zeros-at}
 use Rattle.crn_format.proofs.SelectorOrder.{written-within}
-use Rattle.crn_selectors.specs.Selectors.{top_of, bits_of, Halves, values_of, Pairs, PairDelta, PairMoved, written_pair}
+use Rattle.crn_consts.specs.declared.Deltas.{Deltas}
+use Rattle.crn_consts.specs.AlphaDeltas.{AlphaDeltas}
+use Rattle.crn_selectors.specs.Selectors.{top_of, bits_of, DeltasOf, Halves, values_of, Pairs, PairDelta, PairMoved, written_pair}
 use Rattle.crn_selectors.proofs.Packing.{Packed, packed-kept, two_fit, packed-two}
 
 -- ---- a list by its indices
@@ -69,11 +72,17 @@ pub halves_small : (alpha : Bool) {pair : ℕ} → Halves alpha pair → pair < 
 halves_small true h = omega arith
 halves_small false h = omega arith
 
+-- an alpha symbol's deltas, from the constant table
+pub table_deltas : {s : ℕ} {r : Deltas} → s < 225 → AlphaDeltas s r → DeltasOf true s r
+table_deltas {s} {r} h d =
+    let e : r ≡ record { first = raised 7 (s % 15); second = raised 7 (s / 15) } = simp (lt-ltb s 225 h) at d.rule in
+    record { first = ap (λ (r : Deltas). r.first) e; second = ap (λ (r : Deltas). r.second) e; low = d.first; high = d.second }
+
 -- a symbol's deltas, one in each half
-pub pair_delta_is : (alpha : Bool) {t u : ℕ} → t ≡ top_of alpha → u ≡ top_of alpha → (s : ℕ) → PairDelta alpha s
-    ((s % (2 * t + 1) + 1) % (u + 1) + 16 * ((s / (2 * t + 1) + 1) % (u + 1)))
-pair_delta_is true e f s = rw (e, f) (record { first = omega arith; second = omega arith })
-pair_delta_is false e f s = rw (e, f) (record { first = omega arith; second = omega arith })
+pub pair_delta_is : (alpha : Bool) {t s a b : ℕ} → t ≡ top_of alpha → a ≡ raised (top_of alpha) (s % delta_count (top_of alpha))
+    → b ≡ raised (top_of alpha) (s / delta_count (top_of alpha)) → PairDelta alpha s (a % (t + 1) + 16 * (b % (t + 1)))
+pair_delta_is true e f g = rw e (record { first = omega (arith, f); second = omega (arith, g) })
+pair_delta_is false e f g = rw e (record { first = omega (arith, f); second = omega (arith, g) })
 
 -- all pairs are zero at first
 halves-none : (alpha : Bool) → Halves alpha 0

@@ -8,6 +8,8 @@ use Rattle.crn_format.specs.Opening.{zeros}
 use Rattle.crn_format.specs.Palettes.{entries, changed, packed, delta_count, raised, from_linear}
 use Rattle.crn_format.specs.Palettes.{color_selector_words, alpha_selector_words}
 use Rattle.crn_format.specs.declared.Fault.{Fault}
+use Rattle.crn_consts.specs.declared.Deltas.{Deltas}
+use Rattle.crn_consts.specs.AlphaDeltas.{AllDeltas}
 use Rattle.crn_symbol_codec.specs.Decoders.{Decodes}
 use Rattle.crn_symbol_codec.specs.Telling.{OnPart}
 use Rattle.crn_symbol_codec.specs.declared.Cursor.{Cursor}
@@ -27,6 +29,18 @@ pairs_of alpha = delta_count (top_of alpha) * delta_count (top_of alpha)
 abbrev pub bits_of : Bool → ℕ
 bits_of alpha = pick alpha 3 2
 
+-- what is kept for the symbols: for alpha the constant table of all pairs; colour's deltas are computed
+abbrev pub Kept : Bool → List ℕ → Type 0
+Kept true pairs = AllDeltas pairs
+Kept false pairs = Unit {0}
+
+-- what symbol s adds to two values, each raised so that it is not negative
+pub record DeltasOf (alpha : Bool) (s : ℕ) (r : Deltas) : Type 0 where
+  pub first : r.first ≡ raised (top_of alpha) (s % delta_count (top_of alpha))
+  pub second : r.second ≡ raised (top_of alpha) (s / delta_count (top_of alpha))
+  pub low : r.first < 16
+  pub high : r.second < 16
+
 -- a pair in a byte: its first value is the low half, its second the high one, and each is at most the greatest
 pub record Halves (alpha : Bool) (pair : ℕ) : Type 0 where
   pub first : pair % 16 ≤ top_of alpha
@@ -42,7 +56,7 @@ pub record Pairs (alpha : Bool) (pairs : List ℕ) : Type 0 where
   pub long : length pairs ≡ 8
   pub halves : (j : ℕ) → Halves alpha (get_or pairs j 0)
 
--- what symbol s adds to a pair: to each value a delta, raised so that it is not negative, modulo how many values there are
+-- what symbol s adds to a pair: the same, each modulo how many values there are
 pub record PairDelta (alpha : Bool) (s r : ℕ) : Type 0 where
   pub first : r % 16 ≡ raised (top_of alpha) (s % delta_count (top_of alpha)) % (top_of alpha + 1)
   pub second : r / 16 ≡ raised (top_of alpha) (s / delta_count (top_of alpha)) % (top_of alpha + 1)

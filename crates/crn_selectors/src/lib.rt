@@ -5,15 +5,15 @@
 ghost use Rattle.std.specs.Prelude.{◌≡◌, Bool, true, false, refl, List, ℕ, ◌+◌, ◌*◌, ◌^◌, ◌<◌, ◌≤◌, length, take};
 ghost use Rattle.std.proofs.lemmas.List.Edits.{sets};
 ghost use Rattle.crn_format.specs.Limits.{too_long, max_entries};
-ghost use Rattle.crn_format.specs.Palettes.{three_words, color_selectors, alpha_selectors};
+ghost use Rattle.crn_format.specs.Palettes.{from_linear, three_words, color_selectors, alpha_selectors};
 ghost use Rattle.crn_symbol_codec.specs.Cursors.{Holds};
 ghost use Rattle.crn_symbol_codec.specs.Decoders.{Decodes, SomeCode};
 ghost use Rattle.crn_palettes.specs.Filling.{Fills, FillsFrom};
 ghost use Rattle.crn_palettes.specs.Reaching.{Codes};
-ghost use Rattle.crn_selectors.specs.Selectors.{top_of, pairs_of, bits_of, Halves, PairDelta, PairMoved, written_pair};
+ghost use Rattle.crn_selectors.specs.Selectors.{top_of, pairs_of, bits_of, Kept, DeltasOf, Halves, PairDelta, PairMoved, written_pair};
 ghost use Rattle.crn_selectors.specs.Selectors.{DeltaTable, WordTable, Pairs, NextWord, color_entries, alpha_entries, cleared, FillsBy};
 
-use crn_consts::from_linear;
+use crn_consts::{Deltas, alpha_delta_pairs, alpha_deltas, from_linear};
 use crn_format::{Fault, Refusal};
 use crn_palettes::{build_decoder, few, receive_lengths};
 use crn_short_draw::filled;
@@ -40,6 +40,12 @@ trait Kind {
 
     // How many symbols have a meaning.
     const PAIRS: u32;
+
+    // What a symbol adds to two values, raised so that it is not negative: for alpha by the constant table, which is kept.
+    fn deltas(kept: &[u8], symbol: u32) -> Deltas
+        requires symbol_in { symbol < pairs_of alpha }
+        requires kept { Kept alpha kept.now }
+        ensures { DeltasOf alpha symbol result };
 }
 
 // Values of two bits.
@@ -48,11 +54,11 @@ struct Color;
 impl Kind for Color {
     ghost alpha = { false };
 
-    ghost TOP = { 3 };
+    ghost TOP = { top_of false };
 
-    ghost BITS = { 2 };
+    ghost BITS = { bits_of false };
 
-    ghost PAIRS = { 49 };
+    ghost PAIRS = { pairs_of false };
 
     ghost constants = { (refl, refl, refl) };
 
@@ -61,6 +67,13 @@ impl Kind for Color {
     const BITS: u64 = 2;
 
     const PAIRS: u32 = 49;
+
+    fn deltas(_kept: &[u8], symbol: u32) -> Deltas {
+        Deltas {
+            first: symbol % 7 + 1,
+            second: symbol / 7 + 1,
+        }
+    }
 }
 
 // Values of three bits.
@@ -69,11 +82,11 @@ struct Alpha;
 impl Kind for Alpha {
     ghost alpha = { true };
 
-    ghost TOP = { 7 };
+    ghost TOP = { top_of true };
 
-    ghost BITS = { 3 };
+    ghost BITS = { bits_of true };
 
-    ghost PAIRS = { 225 };
+    ghost PAIRS = { pairs_of true };
 
     ghost constants = { (refl, refl, refl) };
 
@@ -82,18 +95,24 @@ impl Kind for Alpha {
     const BITS: u64 = 3;
 
     const PAIRS: u32 = 225;
+
+    #[tactic(auto, using(crate::proofs::Pairing::table_deltas))]
+    fn deltas(kept: &[u8], symbol: u32) -> Deltas {
+        alpha_deltas(kept, symbol)
+    }
 }
 
 // ---- a pair of values
 
-// What a symbol adds to a pair: to each value a delta from -TOP to TOP, raised by how many values there are so that it is not negative.
-fn pair_delta<K: Kind>(symbol: u32) -> u8
+// What a symbol adds to a pair: its deltas, each modulo how many values there are.
+fn pair_delta<K: Kind>(kept: &[u8], symbol: u32) -> u8
     requires symbol_in { symbol < pairs_of K.alpha }
+    requires kept { Kept K.alpha kept.now }
     ensures { PairDelta K.alpha symbol result }
 {
-    let deltas = 2 * K::TOP + 1;
+    let by = K::deltas(kept, symbol);
     let values = K::TOP + 1;
-    ((symbol % deltas + 1) % values + 16 * ((symbol / deltas + 1) % values)) as u8
+    (by.first % values + 16 * (by.second % values)) as u8
 }
 
 // A pair changed by a delta.
@@ -107,26 +126,34 @@ fn moved<K: Kind>(pair: u8, delta: u8) -> u8
     (sum % values + 16 * (sum / 16 % values)) as u8
 }
 
-// A pair as a block writes it, the first value lowest.
+// A value as a block writes it.
 #[tactic(auto, using(crate::proofs::Pairing::written_small))]
+fn written<K: Kind>(value: u32) -> u32
+    ensures { (result ≡ from_linear (top_of K.alpha) value) × (result < 2 ^ bits_of K.alpha) }
+{
+    from_linear(K::TOP, value)
+}
+
+// A pair as a block writes it, the first value lowest.
 fn pair_written<K: Kind>(pair: u32) -> u8
     requires { pair < 256 }
     ensures { result ≡ written_pair K.alpha pair }
 {
-    let low = from_linear(K::TOP, pair % 16);
-    let high = from_linear(K::TOP, pair / 16);
+    let low = written::<K>(pair % 16);
+    let high = written::<K>(pair / 16);
     (low + (high << K::BITS)) as u8
 }
 
 // ---- the tables of a palette
 
 // What each symbol adds.
-fn delta_table<K: Kind>() -> [u8; 256]
+fn delta_table<K: Kind>(kept: &[u8]) -> [u8; 256]
+    requires { Kept K.alpha kept.now }
     ensures { DeltaTable K.alpha result }
 {
     let mut out = [0u8; 256];
     for s in 0..K::PAIRS {
-        out[s as usize] = pair_delta::<K>(s);
+        out[s as usize] = pair_delta::<K>(kept, s);
     }
     out
 }
@@ -205,7 +232,7 @@ fn color_words(
     requires count_in { count ≤ length out.old }
     ensures { FillsBy color_entries code.entry seg.now c count out.old out.new result }
 {
-    let deltas = delta_table::<Color>();
+    let deltas = delta_table::<Color>(b"");
     let words = word_table::<Color>();
     let mut pairs = [0u8; 8];
     let mut at = c;
@@ -297,7 +324,8 @@ fn alpha_words(
     requires room { 3 * count ≤ length out.old }
     ensures { FillsBy alpha_entries code.entry seg.now c count out.old out.new result }
 {
-    let deltas = delta_table::<Alpha>();
+    let kept = alpha_delta_pairs();
+    let deltas = delta_table::<Alpha>(&kept);
     let words = word_table::<Alpha>();
     let mut pairs = [0u8; 8];
     let mut at = c;

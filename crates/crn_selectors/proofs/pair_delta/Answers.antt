@@ -4,5 +4,5 @@ use Rattle.crn_selectors.proofs.pair_delta.Goals as goal
 
 pub returns : goal.returns
 returns g c =
-    let k = g.K.Kind.constants.0 in
-    pair_delta_is g.K.Kind.alpha (c.TOP.ensures ∙ k) (c.TOP-values.ensures ∙ k) c.args.symbol
+    let by = c.deltas-by.ensures in
+    pair_delta_is g.K.Kind.alpha (c.TOP-values.ensures ∙ g.K.Kind.constants.0) by.first by.second
