@@ -31,6 +31,7 @@ pub fn ready(seg: &[u8], c: Cursor) -> Cursor
 
 // A symbol, as `crn_symbol_codec::draw` answers. It is looked up where the cursor is ready and the code short enough; else the cursor is
 // handed on part by part, so that a loop need not keep it in memory.
+#[inline(always)]
 pub fn draw(code: Decoder, seg: &[u8], c: Cursor) -> Taken
     requires holds { Holds seg.now c }
     requires usable { Usable code.lookup.now code.sorted.now }

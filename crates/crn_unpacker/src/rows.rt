@@ -75,11 +75,13 @@ fn row(
         (row_start level.now.grid face cy) (row_start level.now.grid face (cy + 1))
         r s dst.old dst.new result }
 {
-    let wide = (level.grid.columns + 1) / 2;
+    // a copy, which nothing else can write to: its parts stay in registers, where those behind a reference are read anew after each block
+    let held = *level;
+    let wide = (held.grid.columns + 1) / 2;
     let mut n = r;
     let mut t = s;
     for k in 0..wide {
-        let (m, u) = chunk(dst, out, level, n, t, face, column(turned, wide, k), cy)?;
+        let (m, u) = chunk(dst, out, &held, n, t, face, column(turned, wide, k), cy)?;
         n = m;
         t = u;
     }
