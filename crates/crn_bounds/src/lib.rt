@@ -4,8 +4,10 @@
 ghost use Rattle.std.specs.Prelude.{◌≡◌};
 ghost use Rattle.crn_format.specs.Header.{entries_fit, within_limits, sizes_in};
 
-use crn_format::{Header, Kind, Part};
-use crn_formats::{MAX_ENTRIES, MAX_LEVELS, MAX_SIDE, TOO_LONG, between, implies};
+use crn_format::{Header, Part};
+use crn_formats::{
+    MAX_ENTRIES, MAX_LEVELS, MAX_SIDE, TOO_LONG, between, has_alpha, has_color, implies, is_known,
+};
 
 // "Palette counts at most 8,192; each palette that the format uses has at least one entry."
 fn entries_fit(uses: bool, palette: Part) -> bool
@@ -18,14 +20,13 @@ fn entries_fit(uses: bool, palette: Part) -> bool
 pub fn within_limits(h: Header) -> bool
     ensures { result ≡ within_limits h }
 {
-    let kind = Kind::from(h.format);
-    let color = kind.has_color();
-    let alpha = kind.has_alpha();
+    let color = has_color(h.format);
+    let alpha = has_alpha(h.format);
     between(1, MAX_SIDE, h.width)
         & between(1, MAX_SIDE, h.height)
         & between(1, u32::from(MAX_LEVELS), h.levels)
         & ((h.faces == 1) | (h.faces == 6))
-        & kind.is_known()
+        & is_known(h.format)
         & entries_fit(color, h.color_endpoints)
         & entries_fit(color, h.color_selectors)
         & entries_fit(alpha, h.alpha_endpoints)
