@@ -2,6 +2,8 @@
 // line for each call. docs/CASES.md has the format.
 #![tactic(auto)]
 
+ghost use Rattle.std.specs.Prelude.{◌≤◌, vec_len, IfOk};
+
 use crn_edits::edited;
 use crn_format::{Fault, Header, Part, Record, Refusal, Table, Tables};
 use crn_formats::{CodeTables, Counts};
@@ -76,7 +78,9 @@ fn take_u32(rt: &impl Input) -> Result<u32, Stop> {
 }
 
 // A length that there has to be room for.
-fn take_length(rt: &impl Input, most: usize) -> Result<usize, Stop> {
+fn take_length(rt: &impl Input, most: usize) -> Result<usize, Stop>
+    ensures { IfOk result (λ length. length ≤ most) }
+{
     let length = take_u32(rt)? as usize;
     if most < length {
         return Err(Stop::TooLarge);
@@ -85,7 +89,9 @@ fn take_length(rt: &impl Input, most: usize) -> Result<usize, Stop> {
 }
 
 // A length, and so many bytes.
-fn take_sized(rt: &(impl Input + AllocGlobal), most: usize) -> Result<Vec<u8>, Stop> {
+fn take_sized(rt: &(impl Input + AllocGlobal), most: usize) -> Result<Vec<u8>, Stop>
+    ensures { IfOk result (λ bytes. vec_len bytes ≤ most) }
+{
     let length = take_length(rt, most)?;
     let mut bytes = vec![in rt.alloc(); 0; length]?;
     take_into(rt, &mut bytes)?;
