@@ -11,7 +11,7 @@ ghost use Rattle.crn_chunks.specs.Reads.{Reads, inside_of};
 
 use crn_consts::tile_count;
 use crn_format::Refusal;
-use crn_symbol_codec::{Cursor, Decoder, Taken, draw, place};
+use crn_symbol_codec::{Cursor, Decoder, Taken, draw, place, refusal};
 use crn_utils::limit;
 
 // A plane: the numbers of its two decoder tables, its palettes' sizes, and whether it is an alpha plane.
@@ -111,21 +111,22 @@ fn take(supply: &Supply, which: usize, s: Stream) -> Result<(u64, Stream), Stop>
         (λ cs. symbol (cs which)) s farthest result }
 {
     let at = place(supply.seg, s.cursor);
-    match budgeted_draw(supply, which, s) {
-        Err(refusal) => Err(Stop {
-            refusal,
+    let drawn = budgeted_draw(supply, which, s);
+    let Ok((v, d)) = drawn else {
+        return Err(Stop {
+            refusal: refusal(drawn),
             at,
             left: s.left,
-        }),
-        Ok((v, d)) => Ok((
-            u64::from(v),
-            Stream {
-                cursor: d,
-                blamed: at,
-                left: s.left - 1,
-            },
-        )),
-    }
+        });
+    };
+    Ok((
+        u64::from(v),
+        Stream {
+            cursor: d,
+            blamed: at,
+            left: s.left - 1,
+        },
+    ))
 }
 
 // The refusal of a symbol that was drawn: it names the bit before it.

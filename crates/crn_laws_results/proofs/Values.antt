@@ -56,6 +56,7 @@ use Rattle.crn_level_checks.proofs.level_start.Reads as level-start
 use Rattle.crn_level_checks.proofs.level_end.Reads as level-end
 use Rattle.crn_level_checks.proofs.level_stands.Reads as level-stands
 use Rattle.crn_level_checks.proofs.palettes_reach.Reads as palettes-reach
+use Rattle.crn_symbol_codec.proofs.refusal.Reads as refusal
 use Rattle.crn_symbol_codec.proofs.place.Reads as place
 use Rattle.crn_symbol_codec.proofs.entry.Reads as entry
 use Rattle.crn_static_huffman_data_model.proofs.is_code.Reads as is_code
@@ -251,6 +252,9 @@ pub palettes_reach-settled : Settled palettes-reach.Post the_answer
 palettes_reach-settled _ _ _ _ _ _ _ p q = alike p q
 
 -- ---- crn_symbol_codec, crn_static_huffman_data_model: those that answer no cursor
+
+pub refusal-settled : Settled refusal.Post the_answer
+refusal-settled _ _ _ _ _ _ _ p q = alike p q
 
 pub place-settled : Settled place.Post the_answer
 place-settled _ _ _ _ _ _ _ p q = alike p q

@@ -65,7 +65,9 @@ fn quick_index(
     requires i_in { i < most }
     ensures { QuickStepped supply.now.lookup.now supply.now.sorted.now supply.now.seg.now supply.now.planes which size i c result }
 {
-    let (cursor, delta, length) = quick_symbol(supply, which, c)?;
+    let Some((cursor, delta, length)) = quick_symbol(supply, which, c) else {
+        return None;
+    };
     let index = limit(i + delta, size);
     if size <= index {
         return None;
@@ -269,7 +271,9 @@ fn quick_code(supply: &Supply, pending: u32, s: Stream) -> Option<(u32, u32, Str
         return Some((pending % 8, 0, s));
     }
     let d = filled(supply.seg, s.cursor);
-    let (cursor, v, _) = quick_symbol(supply, 0, d)?;
+    let Some((cursor, v, _)) = quick_symbol(supply, 0, d) else {
+        return None;
+    };
     if 1024 <= v {
         return None;
     }

@@ -4,6 +4,7 @@ use Rattle.crn_format.specs.Reading.{Want, Step, got, refused, Place, spot, serv
 use Rattle.crn_symbol_codec.specs.Cursors.{place, Holds}
 use Rattle.crn_symbol_codec.specs.declared.Cursor.{Cursor}
 use Rattle.crn_format.specs.declared.Refusal.{Refusal}
+use Rattle.crn_format.specs.declared.Refusal.TheVariants.{Ended}
 use Rattle.crn_format.specs.Refusals.{number_of}
 use Rattle.std.specs.Prelude.{Ok, Err}
 use Rattle.std.specs.declared.result.Result.{Result}
@@ -11,6 +12,11 @@ use Rattle.std.specs.declared.result.Result.{Result}
 -- the answer to a want: a symbol or a number with the cursor after it, or the refusal
 abbrev pub Taken : Type 0
 Taken = Result (ℕ × Cursor) Refusal
+
+-- the refusal of an answer; 8 where there is a value
+abbrev pub refusal_of : Taken → Refusal
+refusal_of (Ok x) = Ended
+refusal_of (Err n) = n
 
 -- the answer to a want at the place p, where b is blamed, as a step over the segment's bits
 abbrev pub took : ℕ → ℕ → Taken → Step Place ℕ

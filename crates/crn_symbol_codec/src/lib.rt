@@ -5,7 +5,7 @@ ghost use Rattle.std.specs.Prelude.{◌≡◌, List, ℕ, ◌+◌, ◌*◌, ◌<
 ghost use Rattle.crn_format.specs.Limits.{too_long};
 ghost use Rattle.crn_format.specs.Reading.{a_symbol, a_number};
 ghost use Rattle.crn_symbol_codec.specs.Cursors.{place as place_of, past, Holds, Enough, Filled};
-ghost use Rattle.crn_symbol_codec.specs.Taking.{Takes, Near};
+ghost use Rattle.crn_symbol_codec.specs.Taking.{refusal_of, Takes, Near};
 ghost use Rattle.crn_symbol_codec.specs.Decoders.{Usable, Decodes, short_in, found_in};
 
 use crn_bytes::{eight_bytes, last_bytes};
@@ -28,6 +28,16 @@ pub struct Decoder<'a> {
 
 // A symbol or a number, with the cursor after it; or the refusal, 7 or 8.
 pub type Taken = Result<(u32, Cursor), Refusal>;
+
+// The refusal of an answer, for the `else` of a `let`; 8 where there is a value.
+pub fn refusal(t: Taken) -> Refusal
+    ensures { result ≡ refusal_of t }
+{
+    match t {
+        Ok(_) => Refusal::Ended,
+        Err(refusal) => refusal,
+    }
+}
 
 // At the segment's first bit.
 pub fn start(seg: &[u8]) -> Cursor

@@ -31,7 +31,7 @@ returns-then-pending-ge8 c =
 
 pub returns : goal.returns
 returns c = record {
-  same = found-code c.in_ok-cursor.ensures c.filled-d.ensures.stays c.args.pending c.if-pending-ge8.false c.if-v-ge1024.false
+  same = found-code c.in-Some.ensures c.filled-d.ensures.stays c.args.pending c.if-pending-ge8.false c.if-v-ge1024.false
       c.requires.some_left c.place.ensures;
   few = omega arith;
 }
