@@ -12,7 +12,7 @@ use crate::Received;
 use crn_format::{Fault, Refusal};
 use crn_short_draw::{draw, number, ready};
 use crn_static_huffman_data_model::{build, is_code};
-use crn_symbol_codec::{Cursor, Decoder, place};
+use crn_symbol_codec::{Cursor, Decoder, place, refusal};
 
 // A refusal that names the bit at a cursor.
 fn fault(seg: &[u8], refusal: Refusal, at: Cursor) -> Fault
@@ -68,17 +68,17 @@ fn run_at(code: Decoder, seg: &[u8], at: Cursor, last: u8) -> Result<((u8, usize
     requires last_short { last ≤ max_length }
     ensures { Draws code.entry.lookup.now code.entry.sorted.now seg.now last at result }
 {
-    let (s, close) = match draw(code, seg, ready(seg, at)) {
-        Ok(taken) => taken,
-        Err(refusal) => return Err(fault(seg, refusal, at)),
+    let drawn = draw(code, seg, ready(seg, at));
+    let Ok((s, close)) = drawn else {
+        return Err(fault(seg, refusal(drawn), at));
     };
     if s <= 16 {
         return Ok(((s as u8, 1), close));
     }
     let (extra, least) = run_by(s);
-    let (x, next) = match number(seg, ready(seg, close), extra) {
-        Ok(taken) => taken,
-        Err(refusal) => return Err(fault(seg, refusal, close)),
+    let counted = number(seg, ready(seg, close), extra);
+    let Ok((x, next)) = counted else {
+        return Err(fault(seg, refusal(counted), close));
     };
     let n = least + x as usize;
     if s <= 18 {

@@ -16,7 +16,7 @@ ghost use Rattle.crn_endpoints.specs.Endpoints.{alpha_entries, color_entries, ta
 use crn_format::Fault;
 use crn_palettes::{build_decoder, few, receive_lengths};
 use crn_short_draw::{draw, ready};
-use crn_symbol_codec::{Cursor, Decoder, place, start};
+use crn_symbol_codec::{Cursor, Decoder, place, refusal, start};
 
 // A symbol; a fault names the bit that it begins at. What was drawn is handed on part by part, so that a loop need not keep it in memory.
 fn draw_at(code: Decoder, seg: &[u8], c: Cursor) -> Result<(u32, Cursor), Fault>
@@ -26,13 +26,14 @@ fn draw_at(code: Decoder, seg: &[u8], c: Cursor) -> Result<(u32, Cursor), Fault>
     ensures takes { (t : List ℕ) → Decodes t code.entry.lookup.now code.entry.sorted.now → Takes seg.now (a_symbol t) c (taken_of result) }
     ensures names { (e : Blame) → result ≡ Err e → e.at ≡ place_of c }
 {
-    match draw(code, seg, ready(seg, c)) {
-        Ok((symbol, next)) => Ok((symbol, next)),
-        Err(refusal) => Err(Fault {
-            refusal,
+    let drawn = draw(code, seg, ready(seg, c));
+    let Ok((symbol, next)) = drawn else {
+        return Err(Fault {
+            refusal: refusal(drawn),
             at: place(seg, c),
-        }),
-    }
+        });
+    };
+    Ok((symbol, next))
 }
 
 // A running sum: the code of its deltas, and the low bits that it has.

@@ -17,7 +17,7 @@ use crn_consts::{Deltas, alpha_delta_pairs, alpha_deltas, from_linear};
 use crn_format::{Fault, Refusal};
 use crn_palettes::{build_decoder, few, receive_lengths};
 use crn_short_draw::filled;
-use crn_symbol_codec::{Cursor, Decoder, draw_ready, place, start};
+use crn_symbol_codec::{Cursor, Decoder, draw_ready, place, refusal, start};
 
 // What the two palettes differ in.
 trait Kind {
@@ -192,26 +192,23 @@ fn next_word<K: Kind>(
     let mut word: u64 = 0;
     let mut shift: u64 = 0;
     for pair in pairs.iter_mut() {
-        match draw_ready(code, seg, filled(seg, at)) {
-            Ok((s, next)) => {
-                if K::PAIRS <= s {
-                    return Err(Fault {
-                        refusal: Refusal::NoSelector,
-                        at: place(seg, at),
-                    });
-                }
-                *pair = moved::<K>(*pair, deltas[s as usize]);
-                word += u64::from(words[*pair as usize]) << shift;
-                shift += 2 * K::BITS;
-                at = next;
-            }
-            Err(refusal) => {
-                return Err(Fault {
-                    refusal,
-                    at: place(seg, at),
-                });
-            }
+        let drawn = draw_ready(code, seg, filled(seg, at));
+        let Ok((s, next)) = drawn else {
+            return Err(Fault {
+                refusal: refusal(drawn),
+                at: place(seg, at),
+            });
+        };
+        if K::PAIRS <= s {
+            return Err(Fault {
+                refusal: Refusal::NoSelector,
+                at: place(seg, at),
+            });
         }
+        *pair = moved::<K>(*pair, deltas[s as usize]);
+        word += u64::from(words[*pair as usize]) << shift;
+        shift += 2 * K::BITS;
+        at = next;
     }
     Ok((word, at))
 }

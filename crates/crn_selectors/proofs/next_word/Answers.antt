@@ -1,4 +1,5 @@
 use Rattle.std.proofs.Common.{◌≡◌, ℕ, ◌*◌, ap, ◌∙◌, arith}
+use Rattle.crn_symbol_codec.specs.Taking.{refusal_of}
 use Rattle.crn_symbol_codec.proofs.Taking.{takes_at}
 use Rattle.crn_symbol_codec.proofs.Serving.{taken-holds}
 use Rattle.crn_palettes.proofs.Leaving.{reaches_to, reaches-refused}
@@ -11,23 +12,24 @@ pub loop-pair-init : goal.loop-pair-init
 loop-pair-init g c =
     record { holds = c.requires.holds; eight = c.requires.pairs; packs = packed_none _ _ _; changes = λ t d b. pairs-none _ _ _ _ _ b }
 
-pub returns-in-Err : goal.returns-in-Err
-returns-in-Err g c =
-    record {
+pub returns-in_default : goal.returns-in_default
+returns-in_default g c =
+    rw (c.refusal.ensures ∙ ap refusal_of c.in_default.is)
+    (record {
       reads = λ t d b.
           reaches-refused (pair-failed (c.loop-pair.invariant.changes t d b) c.loop-pair-test.true
-          (takes_at c.filled.ensures.stays (c.draw_ready.ensures.0 t d))
-          c.in-Err.is c.place-in-Err.ensures);
+          (takes_at c.filled.ensures.stays (c.draw_ready-drawn.ensures.0 t d))
+          c.in_default.is c.place.ensures);
       entry = tt;
-    }
+    })
 
 pub returns-then-PAIRS-s : goal.returns-then-PAIRS-s
 returns-then-PAIRS-s g c =
     record {
       reads = λ t d b.
           reaches-refused (pair_bad (c.loop-pair.invariant.changes t d b) c.loop-pair-test.true
-          (takes_at c.filled.ensures.stays (c.draw_ready.ensures.0 t d))
-          c.in-Ok.is (c.PAIRS.ensures ∙ g.K.Kind.constants.2) c.if-PAIRS-s.true c.place.ensures);
+          (takes_at c.filled.ensures.stays (c.draw_ready-drawn.ensures.0 t d))
+          c.in-Ok.is (c.PAIRS.ensures ∙ g.K.Kind.constants.2) c.if-PAIRS-s.true c.place-then-PAIRS-s.ensures);
       entry = tt;
     }
 
@@ -47,7 +49,7 @@ overflow_add-word g c =
 pub loop-pair-preserved : goal.loop-pair-preserved
 loop-pair-preserved g c =
     let code = c.requires.some_code in
-    let draws = c.draw_ready.ensures.0 in
+    let draws = c.draw_ready-drawn.ensures.0 in
     let m = c.moved.ensures in
     let p = c.PAIRS.ensures ∙ g.K.Kind.constants.2 in
     record {
