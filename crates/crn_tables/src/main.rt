@@ -1,7 +1,7 @@
 // Receives code tables and draws symbols, case by case from standard input, and writes a line for each operation. README.md has the format.
 #![tactic(auto)]
 
-ghost use Rattle.std.specs.Prelude.{◌≡◌, ◌<◌, ◌≤◌, true, length};
+ghost use Rattle.std.specs.Prelude.{◌≡◌, ◌<◌, ◌≤◌, IfOk, true, length};
 ghost use Rattle.crn_format.specs.Limits.{max_symbols, too_long};
 ghost use Rattle.crn_format.specs.Codes.{all_fit};
 ghost use Rattle.crn_symbol_codec.specs.Cursors.{Holds};
@@ -11,11 +11,11 @@ ghost use Rattle.crn_symbol_codec.specs.Decoders.{SomeCode};
 use crn_format::{Fault, Refusal, Table};
 use crn_symbol_codec::{Cursor, Taken};
 use std::fmt;
-use std::io::{self, Read};
+use std::io::{self, ErrorKind, Read};
 use std::marker::Model;
 
 // So many bytes of the input are read at most.
-const MOST: u64 = 65536;
+const MOST: usize = 65536;
 
 // ---- what the operations are, and what they come to
 
@@ -322,8 +322,29 @@ fn cases(rt: &impl Print, input: &[u8]) -> io::Result<()> {
     Ok(())
 }
 
+// Reads standard input until the buffer is full or the input ends, and answers how many bytes stand at the buffer's start. Each turn reads
+// a byte or more, or was interrupted.
+fn read_full(rt: &impl Input, buffer: &mut [u8]) -> io::Result<usize>
+    ensures { IfOk result (λ n. n ≤ length buffer.new) }
+{
+    let mut input = rt.reader();
+    let mut done = 0;
+    'reads: for _ in 0..u64::MAX {
+        if buffer.len() <= done {
+            break;
+        }
+        match input.read(&mut buffer[done..]) {
+            Ok(0) => break,
+            Ok(n) => done += n,
+            Err(error) if error.kind() == ErrorKind::Interrupted => {}
+            Err(error) => return Err(error),
+        }
+    }
+    Ok(done)
+}
+
 fn main(rt: HostRuntime) -> io::Result<()> {
-    let mut input = Vec::new(rt.alloc());
-    rt.reader().take(MOST).read_to_end(&mut input)?;
-    cases(&rt, &input)
+    let mut buffer = [0; MOST];
+    let n = read_full(&rt, &mut buffer)?;
+    cases(&rt, &buffer[..n])
 }
