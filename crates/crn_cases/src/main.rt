@@ -2,13 +2,12 @@
 // line for each call. docs/CASES.md has the format.
 #![tactic(auto)]
 
-ghost use Rattle.std.specs.Prelude.{◌≤◌, vec_len, IfOk};
+ghost use Rattle.std.specs.Prelude.{◌≤◌, IfOk, length};
 
 use crn_edits::edited;
 use crn_format::{Fault, Header, Part, Record, Refusal, Table, Tables};
 use crn_formats::{CodeTables, Counts};
 use crunch::Written;
-use std::alloc::{AllocError, Global};
 use std::io::{self, ErrorKind, Read};
 
 // Bytes of a file, at most.
@@ -40,12 +39,6 @@ enum Stop {
 impl From<io::Error> for Stop {
     fn from(error: io::Error) -> Stop {
         Stop::Failed(error)
-    }
-}
-
-impl From<AllocError> for Stop {
-    fn from(error: AllocError) -> Stop {
-        Stop::Failed(io::Error::from(error))
     }
 }
 
@@ -88,14 +81,13 @@ fn take_length(rt: &impl Input, most: usize) -> Result<usize, Stop>
     Ok(length)
 }
 
-// A length, and so many bytes.
-fn take_sized(rt: &(impl Input + AllocGlobal), most: usize) -> Result<Vec<u8>, Stop>
-    ensures { IfOk result (λ bytes. vec_len bytes ≤ most) }
+// A length, and so many bytes for the start of the buffer; how many they are.
+fn take_sized(rt: &impl Input, buffer: &mut [u8]) -> Result<usize, Stop>
+    ensures { IfOk result (λ taken. taken ≤ length buffer.old) }
 {
-    let length = take_length(rt, most)?;
-    let mut bytes = vec![in rt.alloc(); 0; length]?;
-    take_into(rt, &mut bytes)?;
-    Ok(bytes)
+    let length = take_length(rt, buffer.len())?;
+    take_into(rt, &mut buffer[..length])?;
+    Ok(length)
 }
 
 // A record after its edits.
@@ -119,55 +111,56 @@ struct Lent {
     alpha_endpoints: usize,
     alpha_selectors: usize,
     fill: u8,
+    ghost fits: { (color_endpoints ≤ 8192) × (color_selectors ≤ 8192) × (alpha_endpoints ≤ 8192) × (alpha_selectors ≤ 24576) },
 }
 
 // The lengths are judged once all of them are there.
 fn take_lent(rt: &impl Input) -> Result<Lent, Stop> {
-    let lent = Lent {
-        color_endpoints: take_u32(rt)? as usize,
-        color_selectors: take_u32(rt)? as usize,
-        alpha_endpoints: take_u32(rt)? as usize,
-        alpha_selectors: take_u32(rt)? as usize,
-        fill: take_byte(rt)?,
-    };
-    if MOST_WORDS < lent.color_endpoints
-        || MOST_WORDS < lent.color_selectors
-        || MOST_WORDS < lent.alpha_endpoints
-        || MOST_ALPHA_SELECTORS < lent.alpha_selectors
+    let color_endpoints = take_u32(rt)? as usize;
+    let color_selectors = take_u32(rt)? as usize;
+    let alpha_endpoints = take_u32(rt)? as usize;
+    let alpha_selectors = take_u32(rt)? as usize;
+    let fill = take_byte(rt)?;
+    if MOST_WORDS < color_endpoints
+        || MOST_WORDS < color_selectors
+        || MOST_WORDS < alpha_endpoints
+        || MOST_ALPHA_SELECTORS < alpha_selectors
     {
         return Err(Stop::TooLarge);
     }
-    Ok(lent)
+    Ok(Lent {
+        color_endpoints,
+        color_selectors,
+        alpha_endpoints,
+        alpha_selectors,
+        fill,
+    })
 }
 
-// The four palettes of a file.
+// The four palettes of a file, each as long as it is lent.
 #[derive(Drop)]
-struct Palettes {
-    color_endpoints: Vec<u32>,
-    color_selectors: Vec<u32>,
-    alpha_endpoints: Vec<u16>,
-    alpha_selectors: Vec<u16>,
+struct Palettes<'a> {
+    color_endpoints: &'a mut [u32],
+    color_selectors: &'a mut [u32],
+    alpha_endpoints: &'a mut [u16],
+    alpha_selectors: &'a mut [u16],
 }
 
-impl Palettes {
-    // As they are lent, each word filled.
-    fn lent(alloc: Global, lent: Lent) -> Result<Palettes, AllocError> {
-        let color = u32::from(lent.fill);
-        let alpha = u16::from(lent.fill);
-        Ok(Palettes {
-            color_endpoints: vec![in alloc; color; lent.color_endpoints]?,
-            color_selectors: vec![in alloc; color; lent.color_selectors]?,
-            alpha_endpoints: vec![in alloc; alpha; lent.alpha_endpoints]?,
-            alpha_selectors: vec![in alloc; alpha; lent.alpha_selectors]?,
-        })
+impl Palettes<'_> {
+    // Each word set to this byte.
+    fn fill(&mut self, byte: u8) {
+        self.color_endpoints.fill(u32::from(byte));
+        self.color_selectors.fill(u32::from(byte));
+        self.alpha_endpoints.fill(u16::from(byte));
+        self.alpha_selectors.fill(u16::from(byte));
     }
 
     fn slices(&self) -> crn_formats::Palettes<'_> {
         crn_formats::Palettes {
-            color_endpoints: &self.color_endpoints,
-            color_selectors: &self.color_selectors,
-            alpha_endpoints: &self.alpha_endpoints,
-            alpha_selectors: &self.alpha_selectors,
+            color_endpoints: self.color_endpoints,
+            color_selectors: self.color_selectors,
+            alpha_endpoints: self.alpha_endpoints,
+            alpha_selectors: self.alpha_selectors,
         }
     }
 }
@@ -212,18 +205,12 @@ impl Hashed for u32 {
     }
 }
 
-impl<T: Hashed> Hashed for Vec<T> {
+impl Hashed for Palettes<'_> {
     fn hashed(&self, hash: u64) -> u64 {
-        hashed_all(self, hash)
-    }
-}
-
-impl Hashed for Palettes {
-    fn hashed(&self, hash: u64) -> u64 {
-        let mut after = self.color_endpoints.hashed(hash);
-        after = self.color_selectors.hashed(after);
-        after = self.alpha_endpoints.hashed(after);
-        self.alpha_selectors.hashed(after)
+        let mut after = hashed_all(self.color_endpoints, hash);
+        after = hashed_all(self.color_selectors, after);
+        after = hashed_all(self.alpha_endpoints, after);
+        hashed_all(self.alpha_selectors, after)
     }
 }
 
@@ -283,20 +270,19 @@ impl Hashed for Record {
 // ---- the calls
 
 // A case: its file, and what is lent for it.
-#[derive(Drop)]
-struct Case {
-    file: Vec<u8>,
+#[derive(Clone, Copy)]
+struct Case<'a> {
+    file: &'a [u8],
     lent: Lent,
 }
 
-// A level call as the input has it: `size` is the destination's.
+// A level call as the input has it, but for its destination.
 #[derive(Clone, Copy)]
 struct LevelCall {
     level: u32,
     pitch: usize,
     distance: usize,
     budget: u64,
-    size: usize,
 }
 
 fn take_level_call(rt: &impl Input) -> Result<LevelCall, Stop> {
@@ -305,7 +291,6 @@ fn take_level_call(rt: &impl Input) -> Result<LevelCall, Stop> {
         pitch: usize::from_le_bytes(take(rt)?),
         distance: usize::from_le_bytes(take(rt)?),
         budget: u64::from_le_bytes(take(rt)?),
-        size: take_length(rt, MOST_DESTINATION)?,
     })
 }
 
@@ -354,44 +339,49 @@ fn say_opened(
     Ok(file)
 }
 
-impl Case {
-    // The file opened in one call; the record, the empty one where it is refused.
+impl Case<'_> {
+    // The file opened in one call, the palettes filled first; the record, the empty one where it is refused.
     fn open(&self, rt: &impl Print, palettes: &mut Palettes) -> io::Result<Record> {
+        palettes.fill(self.lent.fill);
         let opened = crunch::open(
-            &self.file,
-            &mut palettes.color_endpoints,
-            &mut palettes.color_selectors,
-            &mut palettes.alpha_endpoints,
-            &mut palettes.alpha_selectors,
+            self.file,
+            palettes.color_endpoints,
+            palettes.color_selectors,
+            palettes.alpha_endpoints,
+            palettes.alpha_selectors,
         );
         say_opened(rt, "open", opened, palettes)
     }
 
-    // The next level call: what it answers, what is left of the budget, and what the destination holds.
+    // The next level call: what it answers, what is left of the budget, and what the destination holds. Every destination is the start of
+    // one space, filled first.
     fn unpack_level(
         &self,
-        rt: &(impl Input + Print + AllocGlobal),
+        rt: &(impl Input + Print),
         file: &Record,
         palettes: &Palettes,
+        space: &mut [u8],
     ) -> Result<(), Stop> {
         let call = take_level_call(rt)?;
+        let size = take_length(rt, space.len())?;
+        let destination = &mut space[..size];
+        destination.fill(self.lent.fill);
         let mut left = call.budget;
-        let mut destination = vec![in rt.alloc(); self.lent.fill; call.size]?;
         let unpacked = crunch::unpack_level(
             *file,
-            &self.file,
+            self.file,
             &palettes.slices(),
             call.level,
             call.pitch,
             call.distance,
             &mut left,
-            &mut destination,
+            destination,
         );
         let (refusal, symbols, cutouts) = match unpacked {
             Ok(blocks) => (0, blocks.symbols, blocks.cutouts),
             Err(refused) => (refused.refusal.into(), refused.symbols, 0),
         };
-        let hash = hash_of(&destination);
+        let hash = hashed_all(destination, fnv::OFFSET);
         println!(rt; "level {refusal} {symbols} {cutouts} {left} {hash:016x}")?;
         Ok(())
     }
@@ -399,12 +389,14 @@ impl Case {
     // The next DDS call: how the writing ended, what the destination holds, and what had to be lent.
     fn write_dds(
         &self,
-        rt: &(impl Input + Print + AllocGlobal),
+        rt: &(impl Input + Print),
         file: &Record,
         palettes: &Palettes,
+        space: &mut [u8],
     ) -> Result<(), Stop> {
-        let size = take_length(rt, MOST_DESTINATION)?;
-        let mut destination = vec![in rt.alloc(); self.lent.fill; size]?;
+        let size = take_length(rt, space.len())?;
+        let destination = &mut space[..size];
+        destination.fill(self.lent.fill);
         let tables = &file.tables;
         let lent = CodeTables {
             counts: Counts {
@@ -430,11 +422,11 @@ impl Case {
         } = crunch::write_dds(
             file.header,
             &lent,
-            &self.file,
+            self.file,
             &palettes.slices(),
-            &mut destination,
+            destination,
         );
-        let hash = hash_of(&destination);
+        let hash = hashed_all(destination, fnv::OFFSET);
         let (due, needed) = by_number(crunch::dds_bytes(file.header), 0);
         println!(rt;
             "dds {refusal} {level} {at} {bytes} {symbols} {cutouts} {hash:016x} {due} {needed}"
@@ -442,12 +434,21 @@ impl Case {
         Ok(())
     }
 
-    // The next load call: a look, then the case's file loaded with the header that the look gave and the edits of it. The edits are a
-    // record's; its tables have no part in the load.
-    fn load(&self, rt: &(impl Input + Print + AllocGlobal), file: &Record) -> Result<(), Stop> {
-        let head = take_sized(rt, MOST_HEAD)?;
+    // The next load call: a look, then the case's file loaded with the header that the look gave and the edits of it, the palettes filled
+    // first. The edits are a record's; its tables have no part in the load.
+    fn load(
+        &self,
+        rt: &(impl Input + Print),
+        file: &Record,
+        palettes: &mut Palettes,
+    ) -> Result<(), Stop> {
+        let mut head = [0; MOST_HEAD];
+        let size = take_sized(rt, &mut head)?;
         let length = take_u32(rt)? as usize;
-        let (refusal, header) = by_number(crunch::look_at(&head, length), Header::default());
+        let (refusal, header) = by_number(
+            crunch::look_at(&head[..size], length),
+            Header::default(),
+        );
         println!(rt; "look {refusal} {:016x}", hash_of(&header))?;
         let edited = take_edits(
             rt,
@@ -456,33 +457,42 @@ impl Case {
                 tables: file.tables,
             },
         )?;
-        let mut palettes = Palettes::lent(rt.alloc(), self.lent)?;
+        palettes.fill(self.lent.fill);
         let loaded = crunch::load(
             edited.header,
-            &self.file,
-            &mut palettes.color_endpoints,
-            &mut palettes.color_selectors,
-            &mut palettes.alpha_endpoints,
-            &mut palettes.alpha_selectors,
+            self.file,
+            palettes.color_endpoints,
+            palettes.color_selectors,
+            palettes.alpha_endpoints,
+            palettes.alpha_selectors,
         );
-        say_opened(rt, "load", loaded, &palettes)?;
+        say_opened(rt, "load", loaded, palettes)?;
         Ok(())
     }
 
     // The file opened, and then the calls of each kind, as many as the next byte says: those of levels and of DDS files with the edited
     // record.
-    fn run(&self, rt: &(impl Input + Print + AllocGlobal)) -> Result<(), Stop> {
-        let mut palettes = Palettes::lent(rt.alloc(), self.lent)?;
+    fn run(&self, rt: &(impl Input + Print), space: &mut [u8]) -> Result<(), Stop> {
+        let mut color_endpoints = [0; MOST_WORDS];
+        let mut color_selectors = [0; MOST_WORDS];
+        let mut alpha_endpoints = [0; MOST_WORDS];
+        let mut alpha_selectors = [0; MOST_ALPHA_SELECTORS];
+        let mut palettes = Palettes {
+            color_endpoints: &mut color_endpoints[..self.lent.color_endpoints],
+            color_selectors: &mut color_selectors[..self.lent.color_selectors],
+            alpha_endpoints: &mut alpha_endpoints[..self.lent.alpha_endpoints],
+            alpha_selectors: &mut alpha_selectors[..self.lent.alpha_selectors],
+        };
         let opened = self.open(rt, &mut palettes)?;
         let edited = take_edits(rt, opened)?;
         for _ in 0..take_byte(rt)? {
-            self.unpack_level(rt, &edited, &palettes)?;
+            self.unpack_level(rt, &edited, &palettes, space)?;
         }
         for _ in 0..take_byte(rt)? {
-            self.write_dds(rt, &edited, &palettes)?;
+            self.write_dds(rt, &edited, &palettes, space)?;
         }
         for _ in 0..take_byte(rt)? {
-            self.load(rt, &opened)?;
+            self.load(rt, &opened, &mut palettes)?;
         }
         Ok(())
     }
@@ -491,16 +501,19 @@ impl Case {
 // ---- cases
 
 // The cases in turn, behind the sign and their number.
-fn cases(rt: &(impl Input + Print + AllocGlobal)) -> Result<(), Stop> {
+fn cases(rt: &(impl Input + Print)) -> Result<(), Stop> {
     let sign: [u8; 4] = take(rt)?;
     let count = take_u32(rt)?;
     if sign != *b"CASE" {
         return Err(Stop::NoCases);
     }
+    let mut bytes = [0; MOST_FILE];
+    let mut space = [0; MOST_DESTINATION];
     for _ in 0..count {
-        let file = take_sized(rt, MOST_FILE)?;
+        let size = take_sized(rt, &mut bytes)?;
         let lent = take_lent(rt)?;
-        Case { file, lent }.run(rt)?;
+        let file = &bytes[..size];
+        Case { file, lent }.run(rt, &mut space)?;
     }
     Ok(())
 }
