@@ -194,7 +194,9 @@ impl<'a> Progress<'a> {
 
     // So many symbols, drawn by the last table's code; the line hashes two bytes of each.
     fn draw(&mut self, count: u32) -> Result<Done, Refused> {
-        let decoder = Decoder::new(self.lengths());
+        let mut lookup = [0; 8224];
+        let mut sorted = [0; 8192];
+        let decoder = Decoder::new(self.lengths(), &mut lookup, &mut sorted);
         let mut hash = fnv::OFFSET;
         for done in 0..count {
             match decoder.draw(self.segment, self.cursor) {
@@ -220,28 +222,26 @@ impl<'a> Progress<'a> {
 
 // The decoder tables of a code, by which symbols are drawn.
 #[derive(Drop)]
-struct Decoder {
-    lookup: [u32; 8224],
-    sorted: [u16; 8192],
+struct Decoder<'a> {
+    lookup: &'a [u32; 8224],
+    sorted: &'a [u16; 8192],
 }
 
-impl Model for Decoder {
+impl<'a> Model for Decoder<'a> {
     ghost Value = { Unit {0} };
 
     ghost view = { λ _. tt };
 
-    ghost invariant = { λ d. SomeCode d.lookup d.sorted };
+    ghost invariant = { λ d. SomeCode d.lookup.now d.sorted.now };
 }
 
-impl Decoder {
-    // From the code of these lengths, or from no code at all.
-    fn new(lengths: &[u8]) -> Decoder
+impl<'a> Decoder<'a> {
+    // Made in these tables, from the code of these lengths, or from no code at all.
+    fn new(lengths: &[u8], lookup: &'a mut [u32; 8224], sorted: &'a mut [u16; 8192]) -> Decoder<'a>
         requires { length lengths.now ≤ max_symbols }
     {
-        let mut lookup = [0; 8224];
-        let mut sorted = [0; 8192];
         let code = code_or_none(lengths);
-        crn_static_huffman_data_model::build(code, 13, &mut lookup, &mut sorted);
+        crn_static_huffman_data_model::build(code, 13, lookup, sorted);
         Decoder { lookup, sorted }
     }
 
@@ -250,11 +250,13 @@ impl Decoder {
         requires { Holds segment.now cursor }
         ensures { On segment.now result }
     {
-        let code = crn_symbol_codec::Decoder {
-            lookup: &self.lookup,
-            sorted: &self.sorted,
-        };
-        crn_symbol_codec::draw(code, segment, cursor)
+        let lookup = self.lookup;
+        let sorted = self.sorted;
+        crn_symbol_codec::draw(
+            crn_symbol_codec::Decoder { lookup, sorted },
+            segment,
+            cursor,
+        )
     }
 }
 
