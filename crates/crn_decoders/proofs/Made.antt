@@ -74,58 +74,58 @@ either-fits : (ls : List ℕ) (n : ℕ) (none : Bool) → eqb n 0 ≡ none → e
 either-fits ls n true e h = none_fit ls n (eqb-true n 0 e)
 either-fits ls n false e h = (both_hold (all_fit (take n ls) (length (take n ls))) _ h).0
 
--- `Fair` for lengths whose type says how many they are, as a record's arrays: it is not asked that the count is within them
-pub record FairTyped (lengths : List ℕ) (count room : ℕ) : Type 0 where
+-- fair if there are so many lengths: `Fair` but for that they are there, which a record's type says of its arrays
+pub record FairIf (lengths : List ℕ) (count room : ℕ) : Type 0 where
   pub few : count ≤ max_symbols
   pub short : all_fit (take count lengths) (length (take count lengths)) ≡ true
   pub fits : count ≤ room
 
-pub record AllFairTyped (t : Tables) (room : ℕ) : Type 0 where
-  pub first : FairTyped t.chunk_encoding.lengths t.chunk_encoding.count room
-  pub color_e : FairTyped t.color_endpoint_delta.lengths t.color_endpoint_delta.count room
-  pub color_s : FairTyped t.color_selector_delta.lengths t.color_selector_delta.count room
-  pub alpha_e : FairTyped t.alpha_endpoint_delta.lengths t.alpha_endpoint_delta.count room
-  pub alpha_s : FairTyped t.alpha_selector_delta.lengths t.alpha_selector_delta.count room
+pub record AllFairIf (t : Tables) (room : ℕ) : Type 0 where
+  pub first : FairIf t.chunk_encoding.lengths t.chunk_encoding.count room
+  pub color_e : FairIf t.color_endpoint_delta.lengths t.color_endpoint_delta.count room
+  pub color_s : FairIf t.color_selector_delta.lengths t.color_selector_delta.count room
+  pub alpha_e : FairIf t.alpha_endpoint_delta.lengths t.alpha_endpoint_delta.count room
+  pub alpha_s : FairIf t.alpha_selector_delta.lengths t.alpha_selector_delta.count room
 
-pub fair_typed : (t : Table) (room : ℕ) → table_holds t ≡ true → t.count ≤ room → FairTyped t.lengths t.count room
-fair_typed t room h fits =
+pub fair_if : (t : Table) (room : ℕ) → table_holds t ≡ true → t.count ≤ room → FairIf t.lengths t.count room
+fair_if t room h fits =
     let p = both_hold (leb t.count max_symbols) _ h in
     record { few = leb-true t.count max_symbols p.0; short = either-fits t.lengths t.count (eqb t.count 0) refl p.1; fits = fits }
 
-pub all_fair_typed : (t : Tables) (room : ℕ) → tables_hold t ≡ true → Few (counts_of t) room → AllFairTyped t room
+pub all_fair_if : (t : Tables) (room : ℕ) → tables_hold t ≡ true → Few (counts_of t) room → AllFairIf t room
 unfolding tables_hold
-all_fair_typed t room h few =
+all_fair_if t room h few =
     let p0 = both_hold (table_holds t.chunk_encoding) _ h in
     let p1 = both_hold (table_holds t.color_endpoint_delta) _ p0.1 in
     let p2 = both_hold (table_holds t.color_selector_delta) _ p1.1 in
     let p3 = both_hold (table_holds t.alpha_endpoint_delta) _ p2.1 in
     record {
-      first = fair_typed t.chunk_encoding room p0.0 few.chunk;
-      color_e = fair_typed t.color_endpoint_delta room p1.0 few.color_ends;
-      color_s = fair_typed t.color_selector_delta room p2.0 few.color_sels;
-      alpha_e = fair_typed t.alpha_endpoint_delta room p3.0 few.alpha_ends;
-      alpha_s = fair_typed t.alpha_selector_delta room p3.1 few.alpha_sels;
+      first = fair_if t.chunk_encoding room p0.0 few.chunk;
+      color_e = fair_if t.color_endpoint_delta room p1.0 few.color_ends;
+      color_s = fair_if t.color_selector_delta room p2.0 few.color_sels;
+      alpha_e = fair_if t.alpha_endpoint_delta room p3.0 few.alpha_ends;
+      alpha_s = fair_if t.alpha_selector_delta room p3.1 few.alpha_sels;
     }
 
--- where a table's lengths are there, they are fair
-pub inside : {lengths : List ℕ} {count room : ℕ} → max_symbols ≤ length lengths → FairTyped lengths count room → Fair lengths count room
-inside long f = record { inside = omega (arith, f.few); few = f.few; short = f.short; fits = f.fits }
+-- and they are there
+there : {lengths : List ℕ} {count room : ℕ} → max_symbols ≤ length lengths → FairIf lengths count room → Fair lengths count room
+there long f = record { inside = omega (arith, f.few); few = f.few; short = f.short; fits = f.fits }
 
-pub all_inside : (t : Tables) {room : ℕ} → Long t → AllFairTyped t room → AllFair t room
-all_inside t long f =
+pub all_there : (t : Tables) {room : ℕ} → Long t → AllFairIf t room → AllFair t room
+all_there t long f =
     record {
-      first = inside long.chunk f.first;
-      color_e = inside long.color_ends f.color_e;
-      color_s = inside long.color_sels f.color_s;
-      alpha_e = inside long.alpha_ends f.alpha_e;
-      alpha_s = inside long.alpha_sels f.alpha_s;
+      first = there long.chunk f.first;
+      color_e = there long.color_ends f.color_e;
+      color_s = there long.color_sels f.color_s;
+      alpha_e = there long.alpha_ends f.alpha_e;
+      alpha_s = there long.alpha_sels f.alpha_s;
     }
 
 pub fair : (t : Table) (room : ℕ) → max_symbols ≤ length t.lengths → table_holds t ≡ true → t.count ≤ room → Fair t.lengths t.count room
-fair t room long h fits = inside long (fair_typed t room h fits)
+fair t room long h fits = there long (fair_if t room h fits)
 
 pub all_fair : (t : Tables) (room : ℕ) → Long t → tables_hold t ≡ true → Few (counts_of t) room → AllFair t room
-all_fair t room long h few = all_inside t long (all_fair_typed t room h few)
+all_fair t room long h few = all_there t long (all_fair_if t room h few)
 
 -- the code's test of five counts
 pub few-all : (c : Counts) → ((((leb c.chunk 1024 && leb c.color_ends 1024) && leb c.color_sels 1024) && leb c.alpha_ends 1024) && leb

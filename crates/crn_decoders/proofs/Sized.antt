@@ -11,7 +11,7 @@ use Rattle.crn_format.specs.declared.Tables.{Tables}
 use Rattle.crn_formats.specs.declared.records.Counts.{Counts}
 use Rattle.crn_decoders.specs.declared.decoders.Sizes.{Sizes}
 use Rattle.crn_decoders.specs.Tables.{Few, Able, Long, AllFair, counts_of, all_few, wide_for, sizes_for}
-use Rattle.crn_decoders.proofs.Made.{few-all, AllFairTyped, all_fair_typed, all_fair, at_most}
+use Rattle.crn_decoders.proofs.Made.{few-all, AllFairIf, all_fair_if, all_there, at_most}
 
 pub record Sized (c : Counts) (s : Sizes) : Type 0 where
   pub some : 0 < s.most
@@ -70,8 +70,8 @@ pub able_in : {c : Counts} {s : Sizes} (m n : ℕ) → Sized c s → s.lookup_st
 able_in m n z a b = record { some = z.some; few = z.few; entries = z.entries; lookups = omega arith; sorteds = omega arith }
 
 -- tables that hold are fair by the sizes that their counts have
-pub fair_by_typed : (t : Tables) {s : Sizes} → tables_hold t ≡ true → Sized (counts_of t) s → AllFairTyped t s.sorted_step
-fair_by_typed t holds z = all_fair_typed t _ holds (z.room (at_most t holds))
+pub fair_by_if : (t : Tables) {s : Sizes} → tables_hold t ≡ true → Sized (counts_of t) s → AllFairIf t s.sorted_step
+fair_by_if t holds z = all_fair_if t _ holds (z.room (at_most t holds))
 
 pub fair_by : (t : Tables) {s : Sizes} → Long t → tables_hold t ≡ true → Sized (counts_of t) s → AllFair t s.sorted_step
-fair_by t long holds z = all_fair t _ long holds (z.room (at_most t holds))
+fair_by t long holds z = all_there t long (fair_by_if t holds z)
